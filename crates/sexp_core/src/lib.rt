@@ -8,4 +8,4 @@
 
 mod line_item;
 
-pub use line_item::{FirstItem, line_has_one_item, read_line_item};
+pub use line_item::{FirstItem, each_line_is_one_item, read_line_item};

@@ -65,10 +65,10 @@ fn is_plain(byte: u8) -> bool
     matches!(byte, b' ' | b'!' | b'#'..=b'[' | b']'..=b'~')
 }
 
-/// A law of the table: no line is two items.
-#[tactic(auto, using(crate::proofs::Items::one_item))]
-pub fn line_has_one_item()
-    ensures { (line : List ℕ) (a b : _) → IsItem line a → IsItem line b → a ≡ b }
+/// The law of the table: each line is an item by it, which `item_of` computes, and no line is two.
+pub fn each_line_is_one_item()
+    ensures computed { (line : List ℕ) → IsItem line (item_of line) }
+    ensures one { (line : List ℕ) (a b : _) → IsItem line a → IsItem line b → a ≡ b }
 {}
 
 #[cfg(test)]

@@ -1,5 +1,5 @@
 //! A sink that is written to until it first fails.
-ghost use Rattle.std.specs.Prelude.{◌≡◌, ◌≤◌, ◌++◌, List, ℕ, false, IsTrue};
+ghost use Rattle.std.specs.Prelude.{◌≡◌, ◌≤◌, ◌++◌, List, ℕ, true, false, IsTrue};
 ghost use Rattle.stm_base.specs.Counts.{Rose};
 ghost use Rattle.stm_base.specs.Output.{Grew, IsPut, Output, begun};
 
@@ -69,6 +69,7 @@ impl<K: Sink> Out<K> {
         ensures written { K.written result ≡ self.written }
         ensures faults { K.faults result ≡ self.faults }
         ensures later { self.first_faults ≤ self.faults }
+        ensures cause { self.failed ≡ true → Rose self.first_faults self.faults }
     {
         let Out {
             sink,

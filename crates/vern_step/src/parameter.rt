@@ -72,9 +72,10 @@ fn is_one_sentence(text: &[u8]) -> bool
     }
 }
 
-/// A law of the table: no text has two readings.
-pub fn sentence_has_one_reading()
-    ensures { (text : List ℕ) (a b : Result (List ℕ) FirstFault) → IsReading text a → IsReading text b → a ≡ b }
+/// The law of the table: each text has a reading by it, which `parameter_of` computes, and no text has two.
+pub fn each_text_has_one_reading()
+    ensures computed { (text : List ℕ) → IsReading text (parameter_of text) }
+    ensures one { (text : List ℕ) (a b : Result (List ℕ) FirstFault) → IsReading text a → IsReading text b → a ≡ b }
 {}
 
 #[cfg(test)]

@@ -1,0 +1,148 @@
+-- THE THEOREM, clause by clause. Of one call of `serve_alone` or `sertop_main`:
+--
+--   B is the `taken` bytes that the call took from the source, H its `history`, and W what it wrote to the sink. Where the
+--   source tells its bytes, B are the first `taken` of those that it had left; where the sink tells its bytes, W is what it
+--   has behind those that it had. `before` and `now` are the bytes, or the count of faults, at the call and at its return.
+--
+--   However memory and faults fall among the commands, what is written is what the one-thread document answers to the
+--   commands read.
+use Rattle.std.specs.Prelude.{◌≡◌, ℕ, ◌≤◌, ◌⊎◌, ◌||◌, List, [], ◌∷◌, length, take, drop, Bool, true, false, Option, Some, IfSome}
+use Rattle.std.specs.Io.KnownBytes.{Appends, IsAtEnd}
+use Rattle.stm_base.specs.Counts.{Rose, Stood}
+use Rattle.stm_base.specs.Output.{AppendsPrefix}
+use Rattle.session_run.specs.Items.{items}
+use Rattle.session_run.specs.Answers.{answers}
+use Rattle.session_run.specs.Histories.{place, Legal, render, requests, outcomes}
+use Rattle.session_run.specs.declared.request.Cut.{Cut}
+use Rattle.session_run.specs.declared.request.Cut.TheVariants.{Whole}
+use Rattle.session_run.specs.declared.line.Line.{Line}
+use Rattle.session_run.specs.declared.line.Reply.{Reply}
+use Rattle.session_run.specs.declared.line.Reply.TheVariants as reply
+use Rattle.session_run.specs.declared.history.Entry.{Entry}
+use Rattle.session_run.specs.declared.history.Entry.TheVariants.{Command, Close}
+use Rattle.session_run.specs.declared.status.TheConstants.{DONE, BAD_WORDS, READ_FAULT, WRITE_FAULT, NO_MEMORY, TOO_LONG, INPUT_LIMIT}
+
+-- ---- words
+
+-- the stated command has no words
+abbrev pub IsOutside : {A : Type 0} → List A → Type 0
+IsOutside [] = ⊥
+IsOutside (word ∷ words) = Unit {0}
+
+-- WORDS. The status is 2 exactly where the words are outside the stated command. Then H is empty and nothing was taken
+pub record HasWords {A : Type 0} (words : List A) (status taken : ℕ) (h : List Entry) : Type 0 where
+  pub refused : IsOutside words → status ≡ BAD_WORDS
+  pub only : status ≡ BAD_WORDS → IsOutside words
+  pub empty : status ≡ BAD_WORDS → (h ≡ []) × (taken ≡ 0)
+
+-- ---- legal
+
+-- LEGAL. H is legal and closed, which only a Close as its last entry makes. The one exception is an H with no entry: then nothing
+-- was taken, and the status is 2 for the words or 5 for want of memory before the document was made
+abbrev pub HasLegalHistory : ℕ → ℕ → List Entry → Type 0
+HasLegalHistory status taken [] = (taken ≡ 0) × ((status ≡ BAD_WORDS) ⊎ (status ≡ NO_MEMORY))
+HasLegalHistory status taken (e ∷ es) = Legal (e ∷ es) × ((place (e ∷ es)).closed ≡ true)
+
+-- ---- read
+
+-- all that was asked for was answered before this status
+abbrev pub IsAnswered : ℕ → Type 0
+IsAnswered status = (status ≡ DONE) ⊎ ((status ≡ READ_FAULT) ⊎ (status ≡ TOO_LONG))
+
+-- B are the first bytes that the source had left, and what it has left now are those behind
+pub record IsTaken (all : List ℕ) (now : Option (List ℕ)) (taken : ℕ) : Type 0 where
+  pub within : taken ≤ length all
+  pub rest : now ≡ Some (drop taken all)
+
+-- READ. The requests of H are the first of those in B, whose end is the end of the input where `at_end` holds, and all of them
+-- with status 0, 3 and 7. Where `at_end` holds the source has nothing left. It holds with a status 0 without Quit, and not with 3
+-- and 7. At most 4,294,967,296 bytes were taken
+pub record HasRead (before now : Option (List ℕ)) (status taken : ℕ) (at_end : Bool) (h : List Entry) : Type 0 where
+  pub taken_bytes : IfSome before (λ all. IsTaken all now taken)
+  pub first : IfSome before (λ all. take (length (requests h)) (items (take taken all) at_end) ≡ requests h)
+  pub whole : IsAnswered status → IfSome before (λ all. requests h ≡ items (take taken all) at_end)
+  pub nothing_left : at_end ≡ true → IsAtEnd now
+  pub ended : status ≡ DONE → (place h).quit ≡ false → at_end ≡ true
+  pub not_ended : (status ≡ READ_FAULT) ⊎ (status ≡ TOO_LONG) → at_end ≡ false
+  pub limit : taken ≤ INPUT_LIMIT
+
+-- ---- written
+
+-- WRITTEN. W is what H renders where the sink's count didn't rise, else a prefix of it; with status 0, 3 and 7 it is all of it
+pub record HasWritten (before now : Option (List ℕ)) (old_count new_count : ℕ) (status : ℕ) (h : List Entry) : Type 0 where
+  pub whole : Stood old_count new_count ⊎ IsAnswered status → Appends before now (render h)
+  pub prefix : AppendsPrefix before now (render h)
+
+-- ---- one thread
+
+-- ONE THREAD. What H renders is what the one-thread document answers to the requests of H, each going as far as its outcome says
+abbrev pub IsOneThread : List Entry → Type 0
+IsOneThread h = render h ≡ answers (requests h) (outcomes h)
+
+-- ---- the causes of the statuses
+
+-- the input ended, or a Quit stands in the bytes up to the limit
+abbrev pub IsDone : ℕ → Bool → List Entry → Type 0
+IsDone taken at_end h = (at_end ≡ true) ⊎ ((taken ≡ INPUT_LIMIT) × ((place h).quit ≡ true))
+
+-- the limit was taken with neither the end nor a Quit
+pub record IsTooLong (taken : ℕ) (at_end : Bool) (h : List Entry) : Type 0 where
+  pub full : taken ≡ INPUT_LIMIT
+  pub going_on : at_end ≡ false
+  pub no_quit : (place h).quit ≡ false
+
+-- 0: exactly where the input ended or a Quit stands in the bytes up to the limit, but for a write fault and want of memory
+pub record HasDoneCause (status taken : ℕ) (at_end : Bool) (h : List Entry) : Type 0 where
+  pub only : status ≡ DONE → IsDone taken at_end h
+  pub always : IsDone taken at_end h → (status ≡ DONE) ⊎ ((status ≡ WRITE_FAULT) ⊎ (status ≡ NO_MEMORY))
+
+-- 3: only where the source's count rose in this call
+abbrev pub HasReadFaultCause : ℕ → ℕ → ℕ → Type 0
+HasReadFaultCause old_count new_count status = status ≡ READ_FAULT → Rose old_count new_count
+
+-- 4: only where the sink's count rose in this call
+abbrev pub HasWriteFaultCause : ℕ → ℕ → ℕ → Type 0
+HasWriteFaultCause old_count new_count status = status ≡ WRITE_FAULT → Rose old_count new_count
+
+-- 7: exactly where the limit was taken with neither the end nor a Quit, but for a write fault and want of memory
+pub record HasTooLongCause (status taken : ℕ) (at_end : Bool) (h : List Entry) : Type 0 where
+  pub only : status ≡ TOO_LONG → IsTooLong taken at_end h
+  pub always : IsTooLong taken at_end h → (status ≡ TOO_LONG) ⊎ ((status ≡ WRITE_FAULT) ⊎ (status ≡ NO_MEMORY))
+
+-- there is no other status of a session than 0, 3, 4, 5 and 7
+abbrev pub IsStatus : ℕ → Type 0
+IsStatus status = (status ≡ DONE) ⊎ ((status ≡ READ_FAULT) ⊎ ((status ≡ WRITE_FAULT) ⊎ ((status ≡ NO_MEMORY) ⊎ (status ≡ TOO_LONG))))
+
+-- ---- completeness
+
+abbrev pub AllWhole : List Cut → Type 0
+AllWhole [] = Unit {0}
+AllWhole (cut ∷ cuts) = (cut ≡ Whole) × AllWhole cuts
+
+-- whether a line says that memory was wanting
+abbrev pub is_short_reply : Reply → Bool
+is_short_reply reply.Ack = false
+is_short_reply (reply.Added id begin end) = false
+is_short_reply (reply.CoqExn refused) = false
+is_short_reply reply.OutOfMemory = true
+is_short_reply reply.Completed = false
+
+abbrev pub has_short : List Line → Bool
+has_short [] = false
+has_short (l ∷ ls) = is_short_reply l.reply || has_short ls
+
+abbrev pub any_short : List Entry → Bool
+any_short [] = false
+any_short (Command n q cut ls ∷ es) = has_short ls || any_short es
+any_short (Close ∷ es) = any_short es
+
+-- each request in B up to Quit or the end is answered, whole where no line says OutOfMemory, and the status is 0 or 7 as B says
+pub record IsComplete (before : Option (List ℕ)) (status taken : ℕ) (at_end : Bool) (h : List Entry) : Type 0 where
+  pub all : IfSome before (λ all. requests h ≡ items (take taken all) at_end)
+  pub whole : any_short h ≡ false → AllWhole (outcomes h)
+  pub which : ((status ≡ DONE) × IsDone taken at_end h) ⊎ ((status ≡ TOO_LONG) × IsTooLong taken at_end h)
+
+-- COMPLETENESS. Where neither count rose and the status is neither 2 nor 5, the answers are complete
+abbrev pub HasCompleteness : Option (List ℕ) → ℕ → ℕ → ℕ → ℕ → ℕ → ℕ → Bool → List Entry → Type 0
+HasCompleteness before old_reads new_reads old_writes new_writes status taken at_end h =
+    Stood old_reads new_reads → Stood old_writes new_writes → (status ≡ BAD_WORDS) ⊎ ((status ≡ NO_MEMORY) ⊎ IsComplete before status taken at_end h)

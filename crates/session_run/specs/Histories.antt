@@ -1,0 +1,76 @@
+-- Histories: which are legal, and what they write.
+use Rattle.std.specs.Prelude.{◌≡◌, ℕ, ◌+◌, List, [], ◌∷◌, ◌++◌, Bool, true, false}
+use Rattle.session_run.specs.Items.{is_quit}
+use Rattle.session_run.specs.Lines.{texts}
+use Rattle.session_run.specs.Answers.{Document, MayBe, answer}
+use Rattle.session_run.specs.declared.request.Request.{Request}
+use Rattle.session_run.specs.declared.request.Cut.{Cut}
+use Rattle.session_run.specs.declared.line.Line.{Line}
+use Rattle.session_run.specs.declared.history.Entry.{Entry}
+use Rattle.session_run.specs.declared.history.Entry.TheVariants.{Command, Close}
+
+-- where a history stands: its document, how many Commands there were, whether the last was Quit, and whether it is closed
+pub record Place : Type 0 where
+  pub document : Document
+  pub commands : ℕ
+  pub quit : Bool
+  pub closed : Bool
+
+abbrev pub start : Place
+start = record { document = []; commands = 0; quit = false; closed = false }
+
+-- the place behind an entry
+abbrev pub step : Place → Entry → Place
+step p (Command n q cut ls) = record { document = (answer p.document q cut).document; commands = p.commands + 1; quit = is_quit q; closed = p.closed }
+step p Close = record { document = p.document; commands = p.commands; quit = p.quit; closed = true }
+
+-- what a place asks of a Command: it isn't closed, there was no Quit, the entry has the number of the Commands before, the
+-- request may be cut so, and the lines are its answer
+pub record IsCommand (p : Place) (n : ℕ) (q : Request) (cut : Cut) (ls : List Line) : Type 0 where
+  pub going : p.closed ≡ false
+  pub no_quit : p.quit ≡ false
+  pub place : n ≡ p.commands
+  pub may : MayBe q.item cut
+  pub lines : ls ≡ (answer p.document q cut).lines
+
+-- what a place asks of an entry
+abbrev pub Asks : Place → Entry → Type 0
+Asks p (Command n q cut ls) = IsCommand p n q cut ls
+Asks p Close = p.closed ≡ false
+
+abbrev pub place_from : Place → List Entry → Place
+place_from p [] = p
+place_from p (e ∷ es) = place_from (step p e) es
+
+-- the place that a history makes from the start
+abbrev pub place : List Entry → Place
+place h = place_from start h
+
+abbrev pub LegalFrom : Place → List Entry → Type 0
+LegalFrom p [] = Unit {0}
+LegalFrom p (e ∷ es) = Asks p e × LegalFrom (step p e) es
+
+-- each entry is one that its place asks for
+abbrev pub Legal : List Entry → Type 0
+Legal h = LegalFrom start h
+
+abbrev pub rendered : Entry → List ℕ
+rendered (Command n q cut ls) = texts ls
+rendered Close = []
+
+-- the bytes of the lines of all entries, in order
+abbrev pub render : List Entry → List ℕ
+render [] = []
+render (e ∷ es) = rendered e ++ render es
+
+-- the requests of the Commands, in order
+abbrev pub requests : List Entry → List Request
+requests [] = []
+requests (Command n q cut ls ∷ es) = q ∷ requests es
+requests (Close ∷ es) = requests es
+
+-- the outcomes of the Commands, in order
+abbrev pub outcomes : List Entry → List Cut
+outcomes [] = []
+outcomes (Command n q cut ls ∷ es) = cut ∷ outcomes es
+outcomes (Close ∷ es) = outcomes es
