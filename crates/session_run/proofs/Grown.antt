@@ -83,7 +83,7 @@ kept-grown es spare more d o p item cut k going may put room =
     let at = place-grown start es e in
     record {
       stands = record {
-        legal = legal-grown start es e k.stands.legal (record { going = k.stands.not_closed; no_quit = going; place = refl; may = may; lines = refl });
+        legal = legal-grown start es e k.stands.legal (record { going = k.stands.not_closed; no_quit = going; place = refl; tag = refl; may = may; lines = refl });
         not_closed = ap (λ (s : Place). s.closed) at ∙ k.stands.not_closed;
         put = rw (render-grown es e) (subst (λ z. IsPut z (render es ++ rendered e) p) (same-start o p put.first_written put.first_faults) (IsPut-both _ o p _ _ k.stands.put put));
       };

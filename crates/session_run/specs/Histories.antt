@@ -24,12 +24,13 @@ abbrev pub step : Place → Entry → Place
 step p (Command n q cut ls) = record { document = (answer p.document q cut).document; commands = p.commands + 1; quit = is_quit q; closed = p.closed }
 step p Close = record { document = p.document; commands = p.commands; quit = p.quit; closed = true }
 
--- what a place asks of a Command: it isn't closed, there was no Quit, the entry has the number of the Commands before, the
--- request may be cut so, and the lines are its answer
+-- what a place asks of a Command: it isn't closed, there was no Quit, the entry and its request have the number of the Commands
+-- before, the request may be cut so, and the lines are its answer
 pub record IsCommand (p : Place) (n : ℕ) (q : Request) (cut : Cut) (ls : List Line) : Type 0 where
   pub going : p.closed ≡ false
   pub no_quit : p.quit ≡ false
   pub place : n ≡ p.commands
+  pub tag : q.tag ≡ p.commands
   pub may : MayBe q.item cut
   pub lines : ls ≡ (answer p.document q cut).lines
 

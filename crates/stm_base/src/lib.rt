@@ -9,7 +9,7 @@
 #![tactic(auto)]
 
 mod memory;
-mod out;
+mod output;
 mod standard;
 mod sure;
 #[cfg(test)]
@@ -22,7 +22,7 @@ ghost use Rattle.stm_base.specs.Counts.{HasCause};
 
 pub use base_core::{Bytes, NoMemory, Steps};
 pub use memory::{MemSink, MemSource};
-pub use out::{Out, puts_join};
+pub use output::{Out, puts_join};
 pub use standard::{StdSink, StdSource};
 pub use sure::{SureSink, SureSource};
 use thiserror::Error;
