@@ -8,9 +8,9 @@ use Rattle.stm_base.specs.Output.{Output, AppendsPrefix, Grew, IsPut, fresh}
 use Rattle.session_run.specs.Items.{items}
 use Rattle.session_run.specs.Answers.{Document, answer, last_replies, replies_to, tagged}
 use Rattle.session_run.specs.Histories.{Place, start, step, place, Legal, LegalFrom, render, requests, outcomes}
-use Rattle.session_run.specs.Inputs.{IsStopped}
+use Rattle.session_run.specs.Inputs.{IsStopped, has_ended}
 use Rattle.session_run.specs.Headline.{AllWhole, HasCompleteness, HasDoneCause, HasRead, HasReadFaultCause, HasTooLongCause, HasWriteFaultCause, HasWritten, IsAnswered, IsDone, HasLegalHistory, IsOneThread, IsStatus, IsTaken, IsTooLong, any_short, has_short, is_short_reply}
-use Rattle.session_run.specs.Sessions.{Begins, IsLost, IsServed, has_ended, status_of}
+use Rattle.session_run.specs.Sessions.{Begins, IsLost, IsServed, status_of}
 use Rattle.session_run.proofs.Grown.{place-grown, legal-grown, render-grown, requests-closed, one_thread}
 use Rattle.session_run.specs.declared.request.Request.{Request}
 use Rattle.session_run.specs.declared.request.Cut.{Cut}

@@ -1,5 +1,5 @@
 -- Why no more input was taken.
-use Rattle.std.specs.Prelude.{◌≡◌, ℕ, ◌<◌, List, Option}
+use Rattle.std.specs.Prelude.{◌≡◌, ℕ, ◌<◌, List, Option, Bool, true, false}
 use Rattle.std.specs.Io.KnownBytes.{IsAtEnd}
 use Rattle.stm_base.specs.Counts.{Rose}
 use Rattle.session_run.specs.declared.input.Stop.{Stop}
@@ -12,3 +12,10 @@ IsStopped End left old_count new_count taken = IsAtEnd left
 IsStopped Fault left old_count new_count taken = Rose old_count new_count × (taken < INPUT_LIMIT)
 IsStopped Limit left old_count new_count taken = taken ≡ INPUT_LIMIT
 IsStopped NoMemory left old_count new_count taken = Unit {0}
+
+-- whether the source answered its end
+abbrev pub has_ended : Stop → Bool
+has_ended End = true
+has_ended Fault = false
+has_ended Limit = false
+has_ended NoMemory = false

@@ -108,12 +108,6 @@ IsServed (Lost status) all k o = Begins all k × IsLost status o
 
 -- ---- the status
 
-abbrev pub has_ended : Stop → Bool
-has_ended End = true
-has_ended Fault = false
-has_ended Limit = false
-has_ended NoMemory = false
-
 abbrev pub status_of_stop : Stop → ℕ
 status_of_stop End = DONE
 status_of_stop Fault = READ_FAULT

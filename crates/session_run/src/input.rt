@@ -21,6 +21,21 @@ pub enum Stop {
     NoMemory,
 }
 
+impl Stop {
+    ghost use Rattle.std.specs.Prelude.{◌≡◌};
+    ghost use Rattle.session_run.specs.Inputs.{has_ended};
+
+    /// Whether the source answered its end.
+    pub fn has_ended(self) -> bool
+        ensures { result ≡ has_ended self }
+    {
+        match self {
+            Stop::End => true,
+            Stop::Fault | Stop::Limit | Stop::NoMemory => false,
+        }
+    }
+}
+
 /// The bytes that were taken from a source, and why no more were.
 #[derive(Drop)]
 pub struct Input {

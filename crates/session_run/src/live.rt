@@ -1,10 +1,10 @@
 //! A session as it stands.
-ghost use Rattle.std.specs.Prelude.{◌≡◌, ◌+◌, ◌<◌, ◌^◌, [], ◌∷◌, ◌++◌, List, length, true, false, IfOk, IfErr, OnOk, OnErr, IsTrue, IfSome, string_bytes};
+ghost use Rattle.std.specs.Prelude.{◌≡◌, ◌+◌, ◌<◌, [], ◌∷◌, ◌++◌, true, false, IfOk, IfErr, OnErr, IsTrue, string_bytes};
 ghost use Rattle.std.specs.Option.{ForSome};
 ghost use Rattle.stm_base.specs.Counts.{Rose};
 ghost use Rattle.stm_base.specs.Output.{IsPut, fresh};
 ghost use Rattle.session_run.specs.Lines.{texts};
-ghost use Rattle.session_run.specs.Answers.{Document as DocumentNames, last_replies, tagged};
+ghost use Rattle.session_run.specs.Answers.{last_replies, tagged};
 ghost use Rattle.session_run.specs.Histories.{Legal, place, render};
 ghost use Rattle.session_run.specs.Sessions.{Continues, IsPlan, asked, listed};
 

@@ -1,6 +1,4 @@
 //! Requests, and how far they go.
-ghost use Rattle.std.specs.Prelude.{◌≡◌};
-
 use sexp_core::FirstItem;
 
 /// A line of the input that asks for something.

@@ -1,9 +1,10 @@
 //! Serving a source and a sink on one thread.
-ghost use Rattle.std.specs.Prelude.{◌≡◌, ◌≢◌, ◌<◌, [], ◌∷◌, ◌++◌, List, ℕ, Bool, true, false, length, IsTrue, MatchOption};
+ghost use Rattle.std.specs.Prelude.{◌≡◌, [], ◌∷◌, ◌++◌, true, false, MatchOption};
 ghost use Rattle.std.specs.List.{All};
-ghost use Rattle.session_run.specs.Items.{ends_session, is_blank, is_newline, items, lines as lines_of};
-ghost use Rattle.session_run.specs.Histories.{place, requests};
-ghost use Rattle.session_run.specs.Sessions.{Continues, IsServed, Passes, Takes, has_ended, status_of as status_after};
+ghost use Rattle.session_run.specs.Items.{ends_session, is_blank, is_newline, items};
+ghost use Rattle.session_run.specs.Histories.{place};
+ghost use Rattle.session_run.specs.Inputs.{has_ended};
+ghost use Rattle.session_run.specs.Sessions.{Continues, IsServed, Passes, Takes, status_of as status_after};
 ghost use Rattle.session_run.specs.Headline.{HasCompleteness, HasDoneCause, HasRead, HasReadFaultCause, HasTooLongCause, HasWriteFaultCause, HasWritten, HasLegalHistory, IsOneThread, IsStatus};
 
 use crate::history::History;
@@ -78,18 +79,6 @@ pub fn serve_alone<S: Source, K: Sink>(alloc: Global, source: &mut S, sink: K) -
         history,
         taken: bytes.len() as u64,
         at_end: stop.has_ended(),
-    }
-}
-
-impl Stop {
-    /// Whether the source answered its end.
-    fn has_ended(self) -> bool
-        ensures { result ≡ has_ended self }
-    {
-        match self {
-            Stop::End => true,
-            Stop::Fault | Stop::Limit | Stop::NoMemory => false,
-        }
     }
 }
 

@@ -1,6 +1,6 @@
 use Rattle.std.proofs.Common.{inr, refl}
 use Rattle.session_run.specs.Items.{items}
-use Rattle.session_run.specs.Sessions.{has_ended}
+use Rattle.session_run.specs.Inputs.{has_ended}
 use Rattle.session_run.proofs.Passing.{begins-nothing}
 use Rattle.session_run.proofs.serve.answer_taken.Goals as goal
 
