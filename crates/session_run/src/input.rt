@@ -1,5 +1,5 @@
 //! Taking the input.
-ghost use Rattle.std.specs.Prelude.{◌≡◌, ◌≤◌, ◌<◌, length, take, IfOk, OnErr, vec_len};
+ghost use Rattle.std.specs.Prelude.{◌≡◌, ◌≤◌, ◌<◌, [], length, take, IfOk, OnErr, vec_len};
 ghost use Rattle.std.specs.Io.KnownBytes.{Consumes, IsAtEnd, Keeps};
 ghost use Rattle.stm_base.specs.Counts.{HasCause};
 ghost use Rattle.session_run.specs.Inputs.{IsStopped};
@@ -46,46 +46,41 @@ pub struct Input {
 /// How many bytes are asked for at a time.
 const PIECE: usize = 4096;
 
-/// Takes the whole input, up to `INPUT_LIMIT` bytes. Each turn takes at least one byte, ends or fails.
+/// Takes the whole input, up to `INPUT_LIMIT` bytes.
 pub fn take_input<S: Source>(alloc: Global, source: &mut S) -> Input
     ensures bytes { Consumes (S.left source.old) (S.left source.new) result.bytes.items }
     ensures limit { vec_len result.bytes ≤ INPUT_LIMIT }
     ensures stop { IsStopped result.stop (S.left source.new) (S.faults source.old) (S.faults source.new) (vec_len result.bytes) }
-    ensures later { S.faults source.old ≤ S.faults source.new }
 {
     let mut bytes = Vec::new(alloc);
+    let stop = take_pieces(source, &mut bytes);
+    Input { bytes, stop }
+}
+
+/// Takes piece after piece. Each turn takes at least one byte, ends or fails. There is room for a piece before
+/// it is read, so that none is lost.
+fn take_pieces<S: Source>(source: &mut S, bytes: &mut Vec<u8>) -> Stop
+    requires { bytes.old.items ≡ [] }
+    ensures bytes { Consumes (S.left source.old) (S.left source.new) bytes.new.items }
+    ensures limit { vec_len bytes.new ≤ INPUT_LIMIT }
+    ensures stop { IsStopped result (S.left source.new) (S.faults source.old) (S.faults source.new) (vec_len bytes.new) }
+{
     let mut buf = [0u8; PIECE];
     'pieces: while (bytes.len() as u64) < INPUT_LIMIT {
         let most = (INPUT_LIMIT - bytes.len() as u64).min(PIECE as u64) as usize;
         let Ok(_) = bytes.reserve(most) else {
-            return Input {
-                bytes,
-                stop: Stop::NoMemory,
-            };
+            return Stop::NoMemory;
         };
         match read_front(source, &mut buf, most) {
-            Err(_) => {
-                return Input {
-                    bytes,
-                    stop: Stop::Fault,
-                };
-            }
+            Err(_) => return Stop::Fault,
+            Ok(0) => return Stop::End,
             Ok(n) => {
-                if n == 0 {
-                    return Input {
-                        bytes,
-                        stop: Stop::End,
-                    };
-                }
                 let added = bytes.extend_from_slice(&buf[..n]);
                 prove!(added.is_ok());
             }
         }
     }
-    Input {
-        bytes,
-        stop: Stop::Limit,
-    }
+    Stop::Limit
 }
 
 /// Reads at most so many bytes to the front of a buffer.

@@ -1,7 +1,7 @@
 use Rattle.std.proofs.Common.{◌≤◌, ◌-◌, vec_len}
 use Rattle.std.specs.Io.KnownBytes.{Consumes}
 use Rattle.session_run.specs.declared.status.TheConstants.{INPUT_LIMIT}
-use Rattle.session_run.proofs.input.take_input.Given as goal
+use Rattle.session_run.proofs.input.take_pieces.Given as goal
 
 abbrev pub decreases-pieces : goal.decreases-pieces
 decreases-pieces g l = INPUT_LIMIT - vec_len l.bytes
