@@ -9,16 +9,18 @@
 mod tests;
 mod top;
 
-use session_run::NO_MEMORY;
+use session_run::{BAD_WORDS, NO_MEMORY};
 use std::env;
+use std::io::ErrorKind;
 use std::process::ExitCode;
 use stm_base::{StdSink, StdSource};
 pub use top::sertop_main;
 
 fn main(rt: HostRuntime) -> ExitCode {
     let alloc = rt.alloc();
-    let Ok(args) = env::args(&rt) else {
-        return ExitCode::from(NO_MEMORY);
+    let args = match env::args(&rt) {
+        Ok(args) => args,
+        Err(fault) => return ExitCode::from(status_of_words(fault.kind())),
     };
     let Ok(words) = args.skip(1).collect::<Vec<String>>(alloc) else {
         return ExitCode::from(NO_MEMORY);
@@ -27,4 +29,13 @@ fn main(rt: HostRuntime) -> ExitCode {
     let sink = StdSink::new(rt.stdout());
     let ended = sertop_main(alloc, words.as_slice(), &mut source, sink);
     ExitCode::from(ended.status)
+}
+
+/// The status where the words can't be had: for want of memory, or since one of them isn't UTF-8, which no
+/// stated command has.
+fn status_of_words(fault: ErrorKind) -> u8 {
+    match fault {
+        ErrorKind::OutOfMemory => NO_MEMORY,
+        _ => BAD_WORDS,
+    }
 }

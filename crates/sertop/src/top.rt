@@ -1,5 +1,5 @@
 //! The top call.
-ghost use Rattle.std.specs.Prelude.{◌≡◌, ◌⊎◌};
+ghost use Rattle.std.specs.Prelude.{◌≡◌, ◌⊎◌, []};
 ghost use Rattle.session_run.specs.Headline.{HasCompleteness, HasDoneCause, HasRead, HasReadFaultCause, HasTooLongCause, HasWords, HasWriteFaultCause, HasWritten, HasLegalHistory, IsOneThread, IsStatus};
 
 use session_run::{BAD_WORDS, Ended, History, serve_alone};
@@ -7,27 +7,38 @@ use std::alloc::Global;
 use stm_base::{Sink, Source};
 
 /// What the program does, from the words after its name to its status. The stated command has no words: with
-/// any word the status is 2, and nothing is read or written.
+/// any word nothing is read or written. Without one it is `serve_alone`.
 pub fn sertop_main<S: Source, K: Sink>(
     alloc: Global,
     words: &[String],
     source: &mut S,
     sink: K,
 ) -> Ended<K>
+    // With any word the status is 2.
     ensures words { HasWords words.now result.status result.taken result.history.entries }
-    ensures idle_source { result.status ≡ BAD_WORDS → source.new ≡ source.old }
-    ensures idle_sink { result.status ≡ BAD_WORDS → result.sink ≡ sink }
+
+    // The history is legal and closed, and an empty one means that nothing was read or written.
     ensures legal { HasLegalHistory result.status result.taken result.history.entries }
-    ensures read { HasRead (S.left source.old) (S.left source.new) result.status result.taken result.at_end result.history.entries }
-    ensures written { HasWritten (K.written sink) (K.written result.sink) (K.faults sink) (K.faults result.sink) result.status result.history.entries }
+    ensures untouched_source { result.history.entries ≡ [] → source.new ≡ source.old }
+    ensures untouched_sink { result.history.entries ≡ [] → result.sink ≡ sink }
+
+    // What was read, what was written, and that one thread would have written the same.
+    ensures read { HasRead (S.left source.old) (S.left source.new)
+        result.status result.taken result.at_end result.history.entries }
+    ensures written { HasWritten (K.written sink) (K.written result.sink)
+        (K.faults sink) (K.faults result.sink) result.status result.history.entries }
     ensures one_thread { IsOneThread result.history.entries }
+
     // The causes of each status.
     ensures known { (result.status ≡ BAD_WORDS) ⊎ IsStatus result.status }
     ensures done { HasDoneCause result.status result.taken result.at_end result.history.entries }
     ensures read_fault { HasReadFaultCause (S.faults source.old) (S.faults source.new) result.status }
     ensures write_fault { HasWriteFaultCause (K.faults sink) (K.faults result.sink) result.status }
     ensures too_long { HasTooLongCause result.status result.taken result.at_end result.history.entries }
-    ensures complete { HasCompleteness (S.left source.old) (S.faults source.old) (S.faults source.new) (K.faults sink) (K.faults result.sink)
+
+    // Without faults and want of memory everything is answered.
+    ensures complete { HasCompleteness (S.left source.old)
+        (S.faults source.old) (S.faults source.new) (K.faults sink) (K.faults result.sink)
         result.status result.taken result.at_end result.history.entries }
 {
     if !words.is_empty() {

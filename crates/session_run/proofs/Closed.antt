@@ -10,7 +10,7 @@ use Rattle.session_run.specs.Answers.{Document, answer, last_replies, replies_to
 use Rattle.session_run.specs.Histories.{Place, start, step, place, Legal, LegalFrom, render, requests, outcomes}
 use Rattle.session_run.specs.Inputs.{IsStopped, has_ended}
 use Rattle.session_run.specs.Headline.{AllWhole, HasCompleteness, HasDoneCause, HasRead, HasReadFaultCause, HasTooLongCause, HasWriteFaultCause, HasWritten, IsAnswered, IsDone, HasLegalHistory, IsOneThread, IsStatus, IsTaken, IsTooLong, any_short, has_short, is_short_reply}
-use Rattle.session_run.specs.Sessions.{Begins, IsLost, IsServed, status_of}
+use Rattle.session_run.specs.Sessions.{Begins, IsLost, IsServed, status_of, status_of_loss}
 use Rattle.session_run.proofs.Grown.{place-grown, legal-grown, render-grown, requests-closed, one_thread}
 use Rattle.session_run.specs.declared.request.Request.{Request}
 use Rattle.session_run.specs.declared.request.Cut.{Cut}
@@ -22,8 +22,11 @@ use Rattle.session_run.specs.declared.history.Entry.TheVariants.{Command, Close}
 use Rattle.session_run.specs.declared.input.Stop.{Stop}
 use Rattle.session_run.specs.declared.input.Stop.TheVariants.{End, Fault, Limit, NoMemory}
 use Rattle.session_run.specs.declared.serve.Answered.{Answered}
+use Rattle.session_run.specs.declared.serve.Loss.{Loss}
+use Rattle.session_run.specs.declared.serve.Loss.TheVariants.{WriteFault, WantOfMemory}
 use Rattle.session_run.specs.declared.serve.Answered.TheVariants.{All, Quit, Lost}
-use Rattle.session_run.specs.declared.status.TheConstants.{DONE, READ_FAULT, WRITE_FAULT, NO_MEMORY, TOO_LONG, INPUT_LIMIT}
+use Rattle.session_run.specs.declared.status.TheConstants.{DONE, READ_FAULT, WRITE_FAULT, NO_MEMORY, TOO_LONG}
+use Rattle.session_run.specs.declared.input.TheConstants.{INPUT_LIMIT}
 
 -- ---- the status of a run, before its history is closed
 
@@ -36,6 +39,7 @@ record Facts (bytes : List ℕ) (at_end : Bool) (status : ℕ) (k : List Entry) 
   done_only : status ≡ DONE → IsDone (length bytes) at_end k
   done_always : IsDone (length bytes) at_end k → (status ≡ DONE) ⊎ ((status ≡ WRITE_FAULT) ⊎ (status ≡ NO_MEMORY))
   read_fault : status ≡ READ_FAULT → Rose r s
+  reads : (status ≡ DONE) ⊎ (status ≡ TOO_LONG) → s ≡ r
   write_fault : status ≡ WRITE_FAULT → Rose o.first_faults o.faults
   long_only : status ≡ TOO_LONG → IsTooLong (length bytes) at_end k
   long_always : IsTooLong (length bytes) at_end k → (status ≡ TOO_LONG) ⊎ ((status ≡ WRITE_FAULT) ⊎ (status ≡ NO_MEMORY))
@@ -45,9 +49,9 @@ all-front : (bytes : List ℕ) (at_end : Bool) (k : List Entry) → items bytes 
 all-front bytes at_end k e = ([], e ∙ sym (append-nil (requests k)))
 
 -- a write failed or memory was wanting
-lost-other : (status : ℕ) (o : Output) → IsLost status o → (status ≡ WRITE_FAULT) ⊎ (status ≡ NO_MEMORY)
-lost-other status o (inl l) = inl l.0
-lost-other status o (inr l) = inr l
+lost-other : (loss : Loss) → (status_of_loss loss ≡ WRITE_FAULT) ⊎ (status_of_loss loss ≡ NO_MEMORY)
+lost-other WriteFault = inl refl
+lost-other WantOfMemory = inr refl
 
 not-answered : (status : ℕ) → (status ≡ WRITE_FAULT) ⊎ (status ≡ NO_MEMORY) → IsAnswered status → ⊥
 not-answered status (inl e) (inl d) = omega arith
@@ -57,17 +61,28 @@ not-answered status (inr e) (inl d) = omega arith
 not-answered status (inr e) (inr (inl d)) = omega arith
 not-answered status (inr e) (inr (inr d)) = omega arith
 
-lost-fault : (status : ℕ) (o : Output) → IsLost status o → status ≡ WRITE_FAULT → Rose o.first_faults o.faults
-lost-fault status o (inl l) e = l.1
-lost-fault status o (inr l) e = absurd (omega arith)
+answered-of : (status : ℕ) → (status ≡ DONE) ⊎ (status ≡ TOO_LONG) → IsAnswered status
+answered-of status (inl e) = inl e
+answered-of status (inr e) = inr (inr e)
+
+-- 3 is neither 0 nor 7
+fault-differs : (A : Type 0) → (READ_FAULT ≡ DONE) ⊎ (READ_FAULT ≡ TOO_LONG) → A
+fault-differs A (inl e) = absurd (omega arith)
+fault-differs A (inr e) = absurd (omega arith)
+
+lost-fault : (loss : Loss) (o : Output) → IsLost loss o → status_of_loss loss ≡ WRITE_FAULT → Rose o.first_faults o.faults
+lost-fault WriteFault o l e = l
+lost-fault WantOfMemory o l e = absurd (omega arith)
 
 lost-known : (status : ℕ) → (status ≡ WRITE_FAULT) ⊎ (status ≡ NO_MEMORY) → IsStatus status
 lost-known status (inl e) = inr (inr (inl e))
 lost-known status (inr e) = inr (inr (inr (inl e)))
 
-facts-lost : (bytes : List ℕ) (at_end : Bool) (status : ℕ) (k : List Entry) (o : Output) (r s : ℕ) → Begins (items bytes at_end) k → IsLost status o → Facts bytes at_end status k o r s
-facts-lost bytes at_end status k o r s first lost =
-    let other : (status ≡ WRITE_FAULT) ⊎ (status ≡ NO_MEMORY) = lost-other status o lost in
+facts-lost : (bytes : List ℕ) (at_end : Bool) (loss : Loss) (k : List Entry) (o : Output) (r s : ℕ) → Begins (items bytes at_end) k → IsLost loss o
+    → Facts bytes at_end (status_of_loss loss) k o r s
+facts-lost bytes at_end loss k o r s first lost =
+    let status = status_of_loss loss in
+    let other : (status ≡ WRITE_FAULT) ⊎ (status ≡ NO_MEMORY) = lost-other loss in
     let not : IsAnswered status → ⊥ = not-answered status other in
     record {
       first = first;
@@ -78,7 +93,8 @@ facts-lost bytes at_end status k o r s first lost =
       done_only = λ e. absurd (not (inl e));
       done_always = λ _. inr other;
       read_fault = λ e. absurd (not (inr (inl e)));
-      write_fault = lost-fault status o lost;
+      reads = λ e. absurd (not (answered-of status e));
+      write_fault = lost-fault loss o lost;
       long_only = λ e. absurd (not (inr (inr e)));
       long_always = λ _. inr other;
       known = lost-known status other;
@@ -90,8 +106,8 @@ done-differs A (inl e) = absurd (omega arith)
 done-differs A (inr e) = absurd (omega arith)
 
 -- the input ended, and all was answered
-facts-end : (bytes : List ℕ) (k : List Entry) (o : Output) (r s : ℕ) → items bytes true ≡ requests k → o.failed ≡ false → Facts bytes true DONE k o r s
-facts-end bytes k o r s all clean = record {
+facts-end : (bytes : List ℕ) (k : List Entry) (o : Output) (r s : ℕ) → items bytes true ≡ requests k → o.failed ≡ false → s ≡ r → Facts bytes true DONE k o r s
+facts-end bytes k o r s all clean same = record {
   first = all-front bytes true k all;
   whole = λ _. all;
   clean = λ _. clean;
@@ -100,6 +116,7 @@ facts-end bytes k o r s all clean = record {
   done_only = λ _. inl refl;
   done_always = λ _. inl refl;
   read_fault = λ e. absurd (omega arith);
+  reads = λ _. same;
   write_fault = λ e. absurd (omega arith);
   long_only = λ e. absurd (omega arith);
   long_always = λ l. let e : true ≡ false = l.going_on in absurd (cc);
@@ -122,6 +139,7 @@ facts-fault bytes k o r s all clean rose short = record {
   done_only = λ e. absurd (omega arith);
   done_always = not-done-short _ (length bytes) k short;
   read_fault = λ _. rose;
+  reads = fault-differs (s ≡ r);
   write_fault = λ e. absurd (omega arith);
   long_only = λ e. absurd (omega arith);
   long_always = λ l. absurd (omega (arith, l.full));
@@ -134,8 +152,8 @@ not-done-going A n k g (inl e) = absurd (cc)
 not-done-going A n k g (inr e) = let d : true ≡ false = sym e.1 ∙ g in absurd (cc)
 
 -- the limit was taken, and all was answered, without Quit
-facts-limit : (bytes : List ℕ) (k : List Entry) (o : Output) (r s : ℕ) → items bytes false ≡ requests k → (place k).quit ≡ false → o.failed ≡ false → length bytes ≡ INPUT_LIMIT → Facts bytes false TOO_LONG k o r s
-facts-limit bytes k o r s all going clean full = record {
+facts-limit : (bytes : List ℕ) (k : List Entry) (o : Output) (r s : ℕ) → items bytes false ≡ requests k → (place k).quit ≡ false → o.failed ≡ false → length bytes ≡ INPUT_LIMIT → s ≡ r → Facts bytes false TOO_LONG k o r s
+facts-limit bytes k o r s all going clean full same = record {
   first = all-front bytes false k all;
   whole = λ _. all;
   clean = λ _. clean;
@@ -144,6 +162,7 @@ facts-limit bytes k o r s all going clean full = record {
   done_only = λ e. absurd (omega arith);
   done_always = not-done-going _ (length bytes) k going;
   read_fault = λ e. absurd (omega arith);
+  reads = λ _. same;
   write_fault = λ e. absurd (omega arith);
   long_only = λ _. record { full = full; going_on = refl; no_quit = going };
   long_always = λ _. inl refl;
@@ -151,8 +170,8 @@ facts-limit bytes k o r s all going clean full = record {
 }
 
 -- the limit was taken, and all was answered up to Quit
-facts-quit : (bytes : List ℕ) (k : List Entry) (o : Output) (r s : ℕ) → items bytes false ≡ requests k → (place k).quit ≡ true → o.failed ≡ false → length bytes ≡ INPUT_LIMIT → Facts bytes false DONE k o r s
-facts-quit bytes k o r s all quit clean full = record {
+facts-quit : (bytes : List ℕ) (k : List Entry) (o : Output) (r s : ℕ) → items bytes false ≡ requests k → (place k).quit ≡ true → o.failed ≡ false → length bytes ≡ INPUT_LIMIT → s ≡ r → Facts bytes false DONE k o r s
+facts-quit bytes k o r s all quit clean full same = record {
   first = all-front bytes false k all;
   whole = λ _. all;
   clean = λ _. clean;
@@ -161,6 +180,7 @@ facts-quit bytes k o r s all quit clean full = record {
   done_only = λ _. inr (full, quit);
   done_always = λ _. inl refl;
   read_fault = λ e. absurd (omega arith);
+  reads = λ _. same;
   write_fault = λ e. absurd (omega arith);
   long_only = λ e. absurd (omega arith);
   long_always = λ l. let d : true ≡ false = sym quit ∙ l.no_quit in absurd (cc);
@@ -169,15 +189,15 @@ facts-quit bytes k o r s all quit clean full = record {
 
 facts : (stop : Stop) (answered : Answered) (bytes : List ℕ) (now : Option (List ℕ)) (k : List Entry) (o : Output) (r s : ℕ)
     → IsStopped stop now r s (length bytes) → IsServed answered (items bytes (has_ended stop)) k o → Facts bytes (has_ended stop) (status_of stop answered) k o r s
-facts stop (Lost status) bytes now k o r s h a = facts-lost bytes (has_ended stop) status k o r s a.0 a.1
-facts End All bytes now k o r s h a = facts-end bytes k o r s a.0 a.2
-facts End Quit bytes now k o r s h a = facts-end bytes k o r s a.0 a.2
+facts stop (Lost loss) bytes now k o r s h a = facts-lost bytes (has_ended stop) loss k o r s a.0 a.1
+facts End All bytes now k o r s h a = facts-end bytes k o r s a.0 a.2 h.1
+facts End Quit bytes now k o r s h a = facts-end bytes k o r s a.0 a.2 h.1
 facts Fault All bytes now k o r s h a = facts-fault bytes k o r s a.0 a.2 h.0 h.1
 facts Fault Quit bytes now k o r s h a = facts-fault bytes k o r s a.0 a.2 h.0 h.1
-facts Limit All bytes now k o r s h a = facts-limit bytes k o r s a.0 a.1 a.2 h
-facts Limit Quit bytes now k o r s h a = facts-quit bytes k o r s a.0 a.1 a.2 h
-facts NoMemory All bytes now k o r s h a = facts-lost bytes false NO_MEMORY k o r s (all-front bytes false k a.0) (inr refl)
-facts NoMemory Quit bytes now k o r s h a = facts-lost bytes false NO_MEMORY k o r s (all-front bytes false k a.0) (inr refl)
+facts Limit All bytes now k o r s h a = facts-limit bytes k o r s a.0 a.1 a.2 h.0 h.1
+facts Limit Quit bytes now k o r s h a = facts-quit bytes k o r s a.0 a.1 a.2 h.0 h.1
+facts NoMemory All bytes now k o r s h a = facts-lost bytes false WantOfMemory k o r s (all-front bytes false k a.0) tt
+facts NoMemory Quit bytes now k o r s h a = facts-lost bytes false WantOfMemory k o r s (all-front bytes false k a.0) tt
 
 -- ---- the bytes that were taken
 
@@ -196,7 +216,7 @@ at-taken P (Some all) None bytes c p = absurd c
 at-taken P (Some all) (Some rest) bytes c p = subst P (sym (ap (take (length bytes)) c ∙ take_at bytes rest (length bytes) refl)) p
 
 nothing-left : (stop : Stop) (now : Option (List ℕ)) (r s n : ℕ) → IsStopped stop now r s n → has_ended stop ≡ true → IsAtEnd now
-nothing-left End now r s n h e = h
+nothing-left End now r s n h e = h.0
 nothing-left Fault now r s n h e = absurd (cc)
 nothing-left Limit now r s n h e = absurd (cc)
 nothing-left NoMemory now r s n h e = absurd (cc)
@@ -275,6 +295,11 @@ legal-closed : (status taken : ℕ) (h : List Entry) → Legal h → (place h).c
 legal-closed status taken [] l o = (legal-grown start [] Close l o, ap (λ (p : Place). p.closed) (place-grown start [] Close))
 legal-closed status taken (e ∷ es) l o = (legal-grown start (e ∷ es) Close l o, ap (λ (p : Place). p.closed) (place-grown start (e ∷ es) Close))
 
+-- a closed history isn't empty
+pub closed-some : (h : List Entry) → h ++ Close ∷ [] ≡ [] → ⊥
+closed-some [] e = absurd (cc)
+closed-some (x ∷ xs) e = absurd (cc)
+
 render-closed : (h : List Entry) → render (h ++ Close ∷ []) ≡ render h
 render-closed h = render-grown h Close ∙ append-nil (render h)
 
@@ -331,8 +356,8 @@ told before now r s bytes stop answered k o taken limit stopped served cause leg
       one_thread = one_thread start h legal_h;
       known = f.known;
       done = record { only = done_h; always = λ d. f.done_always (done-closed (length bytes) e h k (sym (quit-closed k)) d) };
-      read_fault = f.read_fault;
-      write_fault = f.write_fault;
+      read_fault = record { only = f.read_fault; passed = f.reads };
+      write_fault = record { only = f.write_fault; passed = λ a. put.passed (f.clean a) };
       too_long = record { only = long_h; always = λ l. f.long_always (record { full = l.full; going_on = l.going_on; no_quit = sym (quit-closed k) ∙ l.no_quit }) };
       complete = completed before r s o.first_faults o.faults status (length bytes) e h f.known f.read_fault f.write_fault all_h (all_whole start h legal_h) done_h long_h;
     }

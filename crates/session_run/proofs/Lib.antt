@@ -1,3 +1,4 @@
 pub mod Grown
 pub mod Passing
+pub mod Plans
 pub mod Closed

@@ -13,6 +13,7 @@ use Rattle.session_run.specs.Sessions.{Leaves, Begins, TakesIn, Takes, Passes, I
 use Rattle.session_run.proofs.Grown.{commands_are}
 use Rattle.session_run.specs.declared.request.Request.{Request}
 use Rattle.session_run.specs.declared.serve.Answered.{Answered}
+use Rattle.session_run.specs.declared.serve.Loss.{Loss}
 use Rattle.session_run.specs.declared.serve.Answered.TheVariants.{All as Whole, Quit, Lost}
 use Rattle.session_run.specs.declared.history.Entry.{Entry}
 
@@ -86,8 +87,8 @@ pub passes-blank : (h : List Entry) (line : List ℕ) (o : Output) → is_blank 
 passes-blank h line o b g c = (λ all rest l. leaves-blank all h line rest b l, g, c)
 
 -- memory was wanting to read the line
-pub passes-lost : (h : List Entry) (line : List ℕ) (status : ℕ) (o : Output) → IsLost status o → Passes (Lost status) h line h o
-passes-lost h line status o l = (λ all rest e. (left_requests h (line ∷ rest), e), l)
+pub passes-lost : (h : List Entry) (line : List ℕ) (loss : Loss) (o : Output) → IsLost loss o → Passes (Lost loss) h line h o
+passes-lost h line loss o l = (λ all rest e. (left_requests h (line ∷ rest), e), l)
 
 -- an item that was answered passes its line
 pub passes-item : (a : Answered) (h k : List Entry) (line : List ℕ) (item : FirstItem) (o : Output) → (place h).quit ≡ false → is_blank line ≡ false → item ≡ item_of line
@@ -99,7 +100,7 @@ passes-item Quit h k line item o g b e t =
     let taken : TakesIn h (item_of line) k = subst (λ z. TakesIn h z k) e t.0 in
     let quit : (place k).quit ≡ true = t.0.1 ∙ t.1 in
     (λ all rest l. leaves-quit all k rest quit (leaves-taken all h k line rest g b taken l), quit, t.2)
-passes-item (Lost status) h k line item o g b e t = (λ all rest l. begins-lost h k line item rest all g b e t.0 l, t.1)
+passes-item (Lost loss) h k line item o g b e t = (λ all rest l. begins-lost h k line item rest all g b e t.0 l, t.1)
   where
     begins-lost : (h k : List Entry) (line : List ℕ) (item : FirstItem) (rest : List (List ℕ)) (all : List Request) → (place h).quit ≡ false → is_blank line ≡ false → item ≡ item_of line
         → (k ≡ h) ⊎ TakesIn h item k → Leaves all h (line ∷ rest) → Begins all k
@@ -126,7 +127,7 @@ pub served-passed : (a : Answered) (all : List Request) (h k : List Entry) (line
     → (a ≡ Whole → rest ≡ []) → IsServed a all k o
 served-passed Whole all h k line rest o l p e = served-none all k rest o (e refl) p.1 p.2 (p.0 all rest l)
 served-passed Quit all h k line rest o l p e = (p.0 all rest l, p.1, p.2)
-served-passed (Lost status) all h k line rest o l p e = (p.0 all rest l, p.1)
+served-passed (Lost loss) all h k line rest o l p e = (p.0 all rest l, p.1)
 
 -- the first line of what is left
 pub leaves-line : (all : List Request) (h : List Entry) (rest line behind : List ℕ) (ended : Bool) → (rest ≡ line ++ 10 ∷ behind) × All (λ b. is_newline b ≡ false) line

@@ -48,6 +48,7 @@ is_begun (After n) = nat_lt 0 n
 
 -- ---- lines
 
+-- no text is read as want of memory, so the last line is asked of none
 abbrev pub refusal_of : FirstFault → Refusal
 refusal_of (fault.At p) = refusal.Parse p
 refusal_of fault.Unsupported = refusal.Unsupported

@@ -20,7 +20,8 @@ use Rattle.session_run.specs.declared.line.Reply.{Reply}
 use Rattle.session_run.specs.declared.line.Reply.TheVariants as reply
 use Rattle.session_run.specs.declared.history.Entry.{Entry}
 use Rattle.session_run.specs.declared.history.Entry.TheVariants.{Command, Close}
-use Rattle.session_run.specs.declared.status.TheConstants.{DONE, BAD_WORDS, READ_FAULT, WRITE_FAULT, NO_MEMORY, TOO_LONG, INPUT_LIMIT}
+use Rattle.session_run.specs.declared.status.TheConstants.{DONE, BAD_WORDS, READ_FAULT, WRITE_FAULT, NO_MEMORY, TOO_LONG}
+use Rattle.session_run.specs.declared.input.TheConstants.{INPUT_LIMIT}
 
 -- ---- words
 
@@ -96,13 +97,15 @@ pub record HasDoneCause (status taken : ℕ) (at_end : Bool) (h : List Entry) : 
   pub only : status ≡ DONE → IsDone taken at_end h
   pub always : IsDone taken at_end h → (status ≡ DONE) ⊎ ((status ≡ WRITE_FAULT) ⊎ (status ≡ NO_MEMORY))
 
--- 3: only where the source's count rose in this call
-abbrev pub HasReadFaultCause : ℕ → ℕ → ℕ → Type 0
-HasReadFaultCause old_count new_count status = status ≡ READ_FAULT → Rose old_count new_count
+-- 3: only where the source's count rose in this call, and with 0 and 7 it stayed: no failed read is passed over
+pub record HasReadFaultCause (old_count new_count status : ℕ) : Type 0 where
+  pub only : status ≡ READ_FAULT → Rose old_count new_count
+  pub passed : (status ≡ DONE) ⊎ (status ≡ TOO_LONG) → new_count ≡ old_count
 
--- 4: only where the sink's count rose in this call
-abbrev pub HasWriteFaultCause : ℕ → ℕ → ℕ → Type 0
-HasWriteFaultCause old_count new_count status = status ≡ WRITE_FAULT → Rose old_count new_count
+-- 4: only where the sink's count rose in this call, and with 0, 3 and 7 it stayed: no failed write is passed over
+pub record HasWriteFaultCause (old_count new_count status : ℕ) : Type 0 where
+  pub only : status ≡ WRITE_FAULT → Rose old_count new_count
+  pub passed : IsAnswered status → new_count ≡ old_count
 
 -- 7: exactly where the limit was taken with neither the end nor a Quit, but for a write fault and want of memory
 pub record HasTooLongCause (status taken : ℕ) (at_end : Bool) (h : List Entry) : Type 0 where

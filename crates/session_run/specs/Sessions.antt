@@ -15,6 +15,8 @@ use Rattle.session_run.specs.declared.input.Stop.{Stop}
 use Rattle.session_run.specs.declared.input.Stop.TheVariants.{End, Fault, Limit, NoMemory}
 use Rattle.session_run.specs.declared.serve.Answered.{Answered}
 use Rattle.session_run.specs.declared.serve.Answered.TheVariants.{All, Quit, Lost}
+use Rattle.session_run.specs.declared.serve.Loss.{Loss}
+use Rattle.session_run.specs.declared.serve.Loss.TheVariants.{WriteFault, WantOfMemory}
 use Rattle.session_run.specs.declared.status.TheConstants.{DONE, READ_FAULT, WRITE_FAULT, NO_MEMORY, TOO_LONG}
 
 -- ---- the standing session
@@ -69,9 +71,10 @@ Begins all k = (rest : List Request) × (all ≡ requests k ++ rest)
 abbrev pub TakesIn : List Entry → FirstItem → List Entry → Type 0
 TakesIn h item k = (requests k ≡ requests h ++ asked_request (place h) item ∷ []) × ((place k).quit ≡ ends_session item)
 
--- why no more is answered: a write fault or want of memory
-abbrev pub IsLost : ℕ → Output → Type 0
-IsLost status o = ((status ≡ WRITE_FAULT) × Rose o.first_faults o.faults) ⊎ (status ≡ NO_MEMORY)
+-- what each cause says of the Out
+abbrev pub IsLost : Loss → Output → Type 0
+IsLost WriteFault o = Rose o.first_faults o.faults
+IsLost WantOfMemory o = Unit {0}
 
 -- ---- how a request is answered
 
@@ -92,19 +95,19 @@ pub record IsPlan (d : Document) (item : FirstItem) (cut : Cut) (name : Option (
 abbrev pub Passes : Answered → List Entry → List ℕ → List Entry → Output → Type 0
 Passes All h line k o = ((all : List Request) (rest : List (List ℕ)) → Leaves all h (line ∷ rest) → Leaves all k rest) × ((place k).quit ≡ false) × (o.failed ≡ false)
 Passes Quit h line k o = ((all : List Request) (rest : List (List ℕ)) → Leaves all h (line ∷ rest) → all ≡ requests k) × ((place k).quit ≡ true) × (o.failed ≡ false)
-Passes (Lost status) h line k o = ((all : List Request) (rest : List (List ℕ)) → Leaves all h (line ∷ rest) → Begins all k) × IsLost status o
+Passes (Lost loss) h line k o = ((all : List Request) (rest : List (List ℕ)) → Leaves all h (line ∷ rest) → Begins all k) × IsLost loss o
 
 -- what one item makes of a session
 abbrev pub Takes : Answered → List Entry → FirstItem → List Entry → Output → Type 0
 Takes All h item k o = TakesIn h item k × (ends_session item ≡ false) × (o.failed ≡ false)
 Takes Quit h item k o = TakesIn h item k × (ends_session item ≡ true) × (o.failed ≡ false)
-Takes (Lost status) h item k o = ((k ≡ h) ⊎ TakesIn h item k) × IsLost status o
+Takes (Lost loss) h item k o = ((k ≡ h) ⊎ TakesIn h item k) × IsLost loss o
 
 -- what was answered of all that was asked
 abbrev pub IsServed : Answered → List Request → List Entry → Output → Type 0
 IsServed All all k o = (all ≡ requests k) × ((place k).quit ≡ false) × (o.failed ≡ false)
 IsServed Quit all k o = (all ≡ requests k) × ((place k).quit ≡ true) × (o.failed ≡ false)
-IsServed (Lost status) all k o = Begins all k × IsLost status o
+IsServed (Lost loss) all k o = Begins all k × IsLost loss o
 
 -- ---- the status
 
@@ -121,7 +124,11 @@ status_of_quit Fault = READ_FAULT
 status_of_quit Limit = DONE
 status_of_quit NoMemory = NO_MEMORY
 
+abbrev pub status_of_loss : Loss → ℕ
+status_of_loss WriteFault = WRITE_FAULT
+status_of_loss WantOfMemory = NO_MEMORY
+
 abbrev pub status_of : Stop → Answered → ℕ
 status_of stop All = status_of_stop stop
 status_of stop Quit = status_of_quit stop
-status_of stop (Lost status) = status
+status_of stop (Lost loss) = status_of_loss loss

@@ -1,5 +1,5 @@
 //! The document: so far, the names that were declared.
-ghost use Rattle.std.specs.Prelude.{◌≡◌, ◌^◌, ◌<◌, [], ◌∷◌, ◌++◌, length, OnOk};
+ghost use Rattle.std.specs.Prelude.{◌≡◌, ◌^◌, ◌<◌, ◌≤◌, [], ◌∷◌, ◌++◌, length, OnOk};
 
 use base_core::{Bytes, NoMemory};
 use std::alloc::Global;
@@ -41,6 +41,7 @@ impl Document {
     pub fn reserve(&mut self) -> Result<(), NoMemory>
         ensures names { self.new.names ≡ self.old.names }
         ensures spare { OnOk result (0 < self.new.spare) }
+        ensures kept { self.old.spare ≤ self.new.spare }
     {
         self.names.reserve(1)?;
         Ok(())

@@ -1,5 +1,5 @@
 //! What a session did, in order.
-ghost use Rattle.std.specs.Prelude.{◌≡◌, ◌+◌, ◌<◌, ◌≤◌, [], ◌∷◌, ◌++◌, length, OnOk};
+ghost use Rattle.std.specs.Prelude.{◌≡◌, ◌↔◌, ◌+◌, ◌<◌, ◌≤◌, [], ◌∷◌, ◌++◌, length, IsTrue, OnOk};
 
 use crate::line::Lines;
 use crate::request::{Cut, Request};
@@ -50,6 +50,12 @@ impl History {
         ensures { result ≡ length self.now.entries }
     {
         self.entries.len() as u64
+    }
+
+    pub fn is_empty(&self) -> bool
+        ensures { IsTrue result ↔ (length self.now.entries ≡ 0) }
+    {
+        self.entries.is_empty()
     }
 
     /// The entries, the oldest first.

@@ -4,9 +4,11 @@ ghost use Rattle.std.specs.Io.KnownBytes.{Consumes, IsAtEnd, Keeps};
 ghost use Rattle.stm_base.specs.Counts.{HasCause};
 ghost use Rattle.session_run.specs.Inputs.{IsStopped};
 
-use crate::status::INPUT_LIMIT;
 use std::alloc::Global;
 use stm_base::{Failed, Source};
+
+/// The most bytes of input that are taken.
+pub const INPUT_LIMIT: u64 = 4_294_967_296;
 
 /// Why no more input was taken.
 #[derive(Clone, Copy, Debug, PartialEq, Eq)]

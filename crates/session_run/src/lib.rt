@@ -17,7 +17,8 @@ mod serve;
 mod status;
 
 pub use history::{Entry, History};
+pub use input::INPUT_LIMIT;
 pub use line::{Line, Lines, Refusal, Reply};
 pub use request::{Cut, Request};
 pub use serve::{Ended, serve_alone};
-pub use status::{BAD_WORDS, DONE, INPUT_LIMIT, NO_MEMORY, READ_FAULT, TOO_LONG, WRITE_FAULT};
+pub use status::{BAD_WORDS, DONE, NO_MEMORY, READ_FAULT, TOO_LONG, WRITE_FAULT};

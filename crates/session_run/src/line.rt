@@ -43,7 +43,7 @@ pub struct Line {
 impl Line {
     ghost use Rattle.std.specs.Prelude.{◌≡◌};
 
-    pub fn new(tag: u64, reply: Reply) -> Line
+    pub(crate) fn new(tag: u64, reply: Reply) -> Line
         ensures { result ≡ record { tag = tag; reply = reply } }
     {
         Line { tag, reply }
@@ -83,7 +83,7 @@ impl fmt::Display for Line {
 
     fn fmt<W: fmt::Write>(&self, f: &mut fmt::Formatter<W>) -> fmt::Result {
         let Line { tag, reply } = self;
-        write!(f, "(Answer {tag} {reply})\n")
+        writeln!(f, "(Answer {tag} {reply})")
     }
 }
 

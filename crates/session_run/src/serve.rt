@@ -37,25 +37,45 @@ enum Answered {
     All,
     /// All up to and with Quit.
     Quit,
-    /// A write failed or memory was wanting, by the status.
-    Lost(u8),
+    /// No more could be answered.
+    Lost(Loss),
+}
+
+/// Why no more was answered.
+#[derive(Clone, Copy, Debug, PartialEq, Eq)]
+enum Loss {
+    /// A write failed.
+    WriteFault,
+    /// Memory was wanting outside of a request's own work.
+    WantOfMemory,
 }
 
 /// Serves a source and a sink on this thread: takes the input up to its end, a fault or `INPUT_LIMIT`, and then
-/// answers the requests in it. With status 5 before the session was made nothing is read or written. A failed
-/// read or write isn't tried again.
+/// answers the requests in it. A failed read or write isn't tried again. Where memory is wanting to make the
+/// session, the history is empty; in every other case it ends with Close.
 pub fn serve_alone<S: Source, K: Sink>(alloc: Global, source: &mut S, sink: K) -> Ended<K>
+    // The history is legal and closed, and an empty one means that nothing was read or written.
     ensures legal { HasLegalHistory result.status result.taken result.history.entries }
-    ensures read { HasRead (S.left source.old) (S.left source.new) result.status result.taken result.at_end result.history.entries }
-    ensures written { HasWritten (K.written sink) (K.written result.sink) (K.faults sink) (K.faults result.sink) result.status result.history.entries }
+    ensures untouched_source { result.history.entries ≡ [] → source.new ≡ source.old }
+    ensures untouched_sink { result.history.entries ≡ [] → result.sink ≡ sink }
+
+    // What was read, what was written, and that one thread would have written the same.
+    ensures read { HasRead (S.left source.old) (S.left source.new)
+        result.status result.taken result.at_end result.history.entries }
+    ensures written { HasWritten (K.written sink) (K.written result.sink)
+        (K.faults sink) (K.faults result.sink) result.status result.history.entries }
     ensures one_thread { IsOneThread result.history.entries }
+
     // The causes of each status.
     ensures known { IsStatus result.status }
     ensures done { HasDoneCause result.status result.taken result.at_end result.history.entries }
     ensures read_fault { HasReadFaultCause (S.faults source.old) (S.faults source.new) result.status }
     ensures write_fault { HasWriteFaultCause (K.faults sink) (K.faults result.sink) result.status }
     ensures too_long { HasTooLongCause result.status result.taken result.at_end result.history.entries }
-    ensures complete { HasCompleteness (S.left source.old) (S.faults source.old) (S.faults source.new) (K.faults sink) (K.faults result.sink)
+
+    // Without faults and want of memory everything is answered.
+    ensures complete { HasCompleteness (S.left source.old)
+        (S.faults source.old) (S.faults source.new) (K.faults sink) (K.faults result.sink)
         result.status result.taken result.at_end result.history.entries }
 {
     let mut live = match Live::new(alloc, sink) {
@@ -86,7 +106,8 @@ fn status_of(stop: Stop, answered: Answered) -> u8
     ensures { result ≡ status_after stop answered }
 {
     match (stop, answered) {
-        (_, Answered::Lost(status)) => status,
+        (_, Answered::Lost(Loss::WriteFault)) => WRITE_FAULT,
+        (_, Answered::Lost(Loss::WantOfMemory)) => NO_MEMORY,
         (Stop::End, _) | (Stop::Limit, Answered::Quit) => DONE,
         (Stop::Fault, _) => READ_FAULT,
         (Stop::NoMemory, _) => NO_MEMORY,
@@ -102,7 +123,7 @@ fn answer_taken<K: Sink>(alloc: Global, text: &[u8], stop: Stop, live: &mut Live
     ensures output { Continues live.old.output live.new.output }
 {
     match stop {
-        Stop::NoMemory => Answered::Lost(NO_MEMORY),
+        Stop::NoMemory => Answered::Lost(Loss::WantOfMemory),
         Stop::End => answer_lines(alloc, text, true, live),
         Stop::Fault | Stop::Limit => answer_lines(alloc, text, false, live),
     }
@@ -120,7 +141,7 @@ fn answer_lines<K: Sink>(alloc: Global, text: &[u8], ended: bool, live: &mut Liv
         match answer_line(alloc, line, live) {
             Answered::All => rest = behind,
             Answered::Quit => return Answered::Quit,
-            Answered::Lost(status) => return Answered::Lost(status),
+            Answered::Lost(loss) => return Answered::Lost(loss),
         }
     }
     if ended {
@@ -141,7 +162,7 @@ fn split_line(text: &[u8]) -> Option<(&[u8], &[u8])>
     Some((line, behind))
 }
 
-/// Answers a line, where it isn't blank, and then looks for a write fault.
+/// Answers the request that a line is; a blank line is none.
 fn answer_line<K: Sink>(alloc: Global, line: &[u8], live: &mut Live<K>) -> Answered
     requires going { (place live.old.entries).quit ≡ false }
     requires clean { live.old.output.failed ≡ false }
@@ -153,7 +174,7 @@ fn answer_line<K: Sink>(alloc: Global, line: &[u8], live: &mut Live<K>) -> Answe
     }
     match read_line_item(alloc, line) {
         Ok(item) => answer_item(alloc, item, live),
-        Err(_) => Answered::Lost(NO_MEMORY),
+        Err(_) => Answered::Lost(Loss::WantOfMemory),
     }
 }
 
@@ -163,7 +184,7 @@ fn is_blank_line(line: &[u8]) -> bool
     line.iter().all(|b| *b == b' ')
 }
 
-/// Answers an item, and then looks for a write fault.
+/// Answers one request, and then looks for a write fault.
 fn answer_item<K: Sink>(alloc: Global, item: FirstItem, live: &mut Live<K>) -> Answered
     requires going { (place live.old.entries).quit ≡ false }
     ensures takes { Takes result live.old.entries item live.new.entries live.new.output }
@@ -171,10 +192,10 @@ fn answer_item<K: Sink>(alloc: Global, item: FirstItem, live: &mut Live<K>) -> A
 {
     let quit = is_quit_item(&item);
     match live.command(alloc, item) {
-        Err(_) => Answered::Lost(NO_MEMORY),
+        Err(_) => Answered::Lost(Loss::WantOfMemory),
         Ok(_) => {
             if live.failed() {
-                return Answered::Lost(WRITE_FAULT);
+                return Answered::Lost(Loss::WriteFault);
             }
             if quit { Answered::Quit } else { Answered::All }
         }

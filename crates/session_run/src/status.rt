@@ -17,6 +17,3 @@ pub const NO_MEMORY: u8 = 5;
 
 /// The input is longer than `INPUT_LIMIT`.
 pub const TOO_LONG: u8 = 7;
-
-/// The most bytes of input that are taken.
-pub const INPUT_LIMIT: u64 = 4_294_967_296;

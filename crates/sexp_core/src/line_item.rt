@@ -18,7 +18,7 @@ pub enum FirstItem {
 }
 
 /// Reads one line, without the byte 10 that ends it. Any line has an item, so want of memory is the only
-/// error.
+/// error. `value` says the same as `table` in the form that a caller's definitions compute with.
 #[tactic(auto, using(crate::proofs::Items::item_of_add, crate::proofs::Items::item_of_unsupported))]
 pub fn read_line_item(alloc: Global, line: &[u8]) -> Result<FirstItem, NoMemory>
     ensures table { IfOk result (IsItem line.now) }

@@ -26,12 +26,19 @@ Grew-both true true true a b c xs ys p q = Keeps-trans a b c p q
 Grew-both true true false a b c xs ys p q = absurd q
 Grew-both true false h a b c xs ys p q = absurd p
 
+-- where the Out hasn't failed it hadn't before
+Grew-clean : (f g : Bool) (a b : Option (List ℕ)) (xs : List ℕ) → Grew f g a b xs → g ≡ false → f ≡ false
+Grew-clean false g a b xs w e = refl
+Grew-clean true true a b xs w e = e
+Grew-clean true false a b xs w e = absurd w
+
 -- two puts in a row are one of both pieces
 pub IsPut-both : (a b c : Output) (xs ys : List ℕ) → IsPut a xs b → IsPut b ys c → IsPut a (xs ++ ys) c
 IsPut-both a b c xs ys p q = record {
   grew = Grew-both a.failed b.failed c.failed a.written b.written c.written xs ys p.grew q.grew;
   idle = λ e. q.idle (ap (λ (o : Output). o.failed) (p.idle e) ∙ e) ∙ p.idle e;
   later = omega arith;
+  passed = λ e. q.passed e ∙ p.passed (Grew-clean b.failed c.failed b.written c.written ys q.grew e);
   first_written = q.first_written ∙ p.first_written;
   first_faults = q.first_faults ∙ p.first_faults;
 }
@@ -42,7 +49,7 @@ Grew-none true a = Keeps-refl a
 
 -- nothing is put
 pub IsPut-none : (a : Output) → IsPut a [] a
-IsPut-none a = record { grew = Grew-none a.failed a.written; idle = λ _. refl; later = omega arith; first_written = refl; first_faults = refl }
+IsPut-none a = record { grew = Grew-none a.failed a.written; idle = λ _. refl; later = omega arith; passed = λ _. refl; first_written = refl; first_faults = refl }
 
 -- bytes that were copied to the front of a buffer
 pub copied : (at n : ℕ) (xs front back : List ℕ) → length front ≡ n → front ≡ take n (drop at xs) → drop at xs ≡ take n (front ++ back) ++ drop (at + n) xs

@@ -35,5 +35,6 @@ pub record IsPut (old : Output) (bytes : List ℕ) (new : Output) : Type 0 where
   pub grew : Grew old.failed new.failed old.written new.written bytes
   pub idle : old.failed ≡ true → new ≡ old
   pub later : old.faults ≤ new.faults
+  pub passed : new.failed ≡ false → new.faults ≡ old.faults
   pub first_written : new.first_written ≡ old.first_written
   pub first_faults : new.first_faults ≡ old.first_faults

@@ -37,7 +37,8 @@ pub trait Source {
     /// The bytes that are left, where the source tells them.
     ghost left: { Self → Option (List ℕ) };
 
-    /// How many faults there were so far. It never falls, and stays at 2^64 - 1.
+    /// How many faults there were so far. It rises at each `Failed` and only there; a count at 2^64 - 1, its last
+    /// value, counts as risen.
     ghost faults: { Self → ℕ };
 
     /// Moves bytes to the front of `buf` and answers how many. 0 for a `buf` that isn't empty is the end of
@@ -53,7 +54,8 @@ pub trait Sink {
     /// The bytes that were written, where the sink tells them.
     ghost written: { Self → Option (List ℕ) };
 
-    /// How many faults there were so far. It never falls, and stays at 2^64 - 1.
+    /// How many faults there were so far. It rises at each `Failed` and only there; a count at 2^64 - 1, its last
+    /// value, counts as risen.
     ghost faults: { Self → ℕ };
 
     /// Writes bytes from the front of `bytes` and answers how many: at least 1, where there are some. After

@@ -1,5 +1,5 @@
 //! A source and a sink in memory, which fail the calls that they are told to.
-ghost use Rattle.std.specs.Prelude.{◌≡◌, ◌<◌, ◌≤◌, ◌++◌, ◌+◌, ◌⊎◌, [], Some, length, take, drop, true, is_err, IfOk, IsErr};
+ghost use Rattle.std.specs.Prelude.{◌≡◌, ◌<◌, ◌≤◌, ◌++◌, ◌+◌, ◌-◌, ◌^◌, ◌⊎◌, min, [], Some, length, take, drop, true, is_err, IfOk, IsErr};
 ghost use Rattle.std.specs.Io.{ReadsAtMost, WritesAtMost};
 ghost use Rattle.std.specs.Io.KnownBytes.{ReadConsumes, WriteAppends};
 ghost use Rattle.stm_base.specs.Counts.{HasCause};
@@ -58,6 +58,8 @@ impl Source for MemSource {
         ensures cause { HasCause self.old.faults self.new.faults result }
         // It fails exactly the calls that are listed.
         ensures listed { is_err result ≡ is_listed self.old.failing self.old.calls }
+        ensures same_list { self.new.failing ≡ self.old.failing }
+        ensures next { self.new.calls ≡ min (self.old.calls + 1) (2 ^ 64 - 1) }
     {
         let call = self.calls;
         self.calls = call.saturating_add(1);
@@ -154,6 +156,8 @@ impl Sink for MemSink {
         ensures cause { HasCause self.old.faults self.new.faults result }
         // It fails each call that is listed.
         ensures listed { is_listed self.old.failing self.old.calls ≡ true → IsErr result }
+        ensures same_list { self.new.failing ≡ self.old.failing }
+        ensures next { self.new.calls ≡ min (self.old.calls + 1) (2 ^ 64 - 1) }
     {
         let call = self.calls;
         self.calls = call.saturating_add(1);

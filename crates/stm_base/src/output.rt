@@ -84,6 +84,7 @@ impl<K: Sink> Out<K> {
 fn write_all<K: Sink>(sink: &mut K, bytes: &[u8]) -> bool
     ensures grew { Grew false result (K.written sink.old) (K.written sink.new) bytes.now }
     ensures later { K.faults sink.old ≤ K.faults sink.new }
+    ensures passed { result ≡ false → K.faults sink.new ≡ K.faults sink.old }
     ensures cause { IsTrue result → Rose (K.faults sink.old) (K.faults sink.new) }
 {
     let mut at = 0;

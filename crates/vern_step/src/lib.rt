@@ -9,4 +9,4 @@
 mod name;
 mod parameter;
 
-pub use parameter::{FirstFault, SENTENCE_LIMIT, each_text_has_one_reading, read_parameter};
+pub use parameter::{FirstFault, each_text_has_one_reading, read_parameter};

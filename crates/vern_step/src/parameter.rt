@@ -1,6 +1,6 @@
 //! The sentence `Parameter NAME : Prop.`.
 ghost use Rattle.std.specs.Prelude.{◌≡◌, ◌⊎◌, ℕ, List, Result, Err};
-ghost use Rattle.vern_step.specs.Parameter.{IsReading, parameter_of, is_one_sentence};
+ghost use Rattle.vern_step.specs.Parameter.{Declares, IsReading, parameter_of, is_one_sentence};
 ghost use Rattle.vern_step.specs.declared.parameter.FirstFault.{FirstFault};
 
 use crate::name::{is_free, split_name};
@@ -9,7 +9,7 @@ use std::alloc::Global;
 use thiserror::Error;
 
 /// The longest sentence that is read, in bytes.
-pub const SENTENCE_LIMIT: usize = 65536;
+const SENTENCE_LIMIT: usize = 65536;
 
 const KEYWORD: &[u8] = b"Parameter ";
 
@@ -38,10 +38,12 @@ impl From<NoMemory> for FirstFault {
     }
 }
 
-/// Reads a text as the declaration of a parameter, and answers the name.
+/// Reads a text as the declaration of a parameter, and answers the name. `value` says the same as `table` in
+/// the form that a caller's definitions compute with.
 pub fn read_parameter(alloc: Global, text: &[u8]) -> Result<Bytes, FirstFault>
     ensures table { (result ≡ Err FirstFault.NoMemory) ⊎ IsReading text.now result }
     ensures value { (result ≡ Err FirstFault.NoMemory) ⊎ (result ≡ parameter_of text.now) }
+    ensures no_memory_only_at_a_name { result ≡ Err FirstFault.NoMemory → (name : List ℕ) × Declares text.now name }
 {
     if text.len() > SENTENCE_LIMIT {
         return Err(FirstFault::Unsupported);

@@ -1,6 +1,6 @@
 use Rattle.std.proofs.Common.{vec_len, sym, subst, ◌∙◌}
 use Rattle.std.specs.Io.KnownBytes.{Consumes}
-use Rattle.session_run.proofs.Closed.{told-is}
+use Rattle.session_run.proofs.Closed.{told-is, closed-some}
 use Rattle.session_run.proofs.serve.serve_alone.Goals as goal
 
 pub returns : goal.returns
@@ -21,6 +21,8 @@ returns g c =
       read = t.read;
       written = t.written;
       one_thread = t.one_thread;
+      untouched_source = λ e. absurd (closed-some answer.new.live.entries (sym session.ensures.entries ∙ e));
+      untouched_sink = λ e. absurd (closed-some answer.new.live.entries (sym session.ensures.entries ∙ e));
       known = t.known;
       done = t.done;
       read_fault = t.read_fault;

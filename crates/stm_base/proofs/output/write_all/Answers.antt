@@ -6,5 +6,5 @@ pub loop-at-preserved : goal.loop-at-preserved
 loop-at-preserved g c = record {
   within = search rules;
   written = Appends-more _ _ _ c.loop-at.at c.in-Ok.n c.args.bytes.now c.loop-at.invariant.written (search rules);
-  later = omega (arith, c.write.ensures.cause.later, c.loop-at.invariant.later);
+  passed = search rules;
 }
