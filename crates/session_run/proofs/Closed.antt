@@ -45,7 +45,8 @@ record Facts (bytes : List ℕ) (at_end : Bool) (status : ℕ) (k : List Entry) 
   long_always : IsTooLong (length bytes) at_end k → (status ≡ TOO_LONG) ⊎ ((status ≡ WRITE_FAULT) ⊎ (status ≡ NO_MEMORY))
   known : IsStatus status
 
-all-front : (bytes : List ℕ) (at_end : Bool) (k : List Entry) → items bytes at_end ≡ requests k → Begins (items bytes at_end) k
+all-front : (bytes : List ℕ) (at_end : Bool) (k : List Entry) → items bytes at_end ≡ requests k
+    → Begins (items bytes at_end) k
 all-front bytes at_end k e = ([], e ∙ sym (append-nil (requests k)))
 
 -- a write failed or memory was wanting
@@ -70,7 +71,8 @@ fault-differs : (A : Type 0) → (READ_FAULT ≡ DONE) ⊎ (READ_FAULT ≡ TOO_L
 fault-differs A (inl e) = absurd (omega arith)
 fault-differs A (inr e) = absurd (omega arith)
 
-lost-fault : (loss : Loss) (o : Output) → IsLost loss o → status_of_loss loss ≡ WRITE_FAULT → Rose o.first_faults o.faults
+lost-fault : (loss : Loss) (o : Output) → IsLost loss o → status_of_loss loss ≡ WRITE_FAULT
+    → Rose o.first_faults o.faults
 lost-fault WriteFault o l e = l
 lost-fault WantOfMemory o l e = absurd (omega arith)
 
@@ -78,7 +80,8 @@ lost-known : (status : ℕ) → (status ≡ WRITE_FAULT) ⊎ (status ≡ NO_MEMO
 lost-known status (inl e) = inr (inr (inl e))
 lost-known status (inr e) = inr (inr (inr (inl e)))
 
-facts-lost : (bytes : List ℕ) (at_end : Bool) (loss : Loss) (k : List Entry) (o : Output) (r s : ℕ) → Begins (items bytes at_end) k → IsLost loss o
+facts-lost : (bytes : List ℕ) (at_end : Bool) (loss : Loss) (k : List Entry) (o : Output) (r s : ℕ)
+    → Begins (items bytes at_end) k → IsLost loss o
     → Facts bytes at_end (status_of_loss loss) k o r s
 facts-lost bytes at_end loss k o r s first lost =
     let status = status_of_loss loss in
@@ -106,7 +109,8 @@ done-differs A (inl e) = absurd (omega arith)
 done-differs A (inr e) = absurd (omega arith)
 
 -- the input ended, and all was answered
-facts-end : (bytes : List ℕ) (k : List Entry) (o : Output) (r s : ℕ) → items bytes true ≡ requests k → o.failed ≡ false → s ≡ r → Facts bytes true DONE k o r s
+facts-end : (bytes : List ℕ) (k : List Entry) (o : Output) (r s : ℕ) → items bytes true ≡ requests k
+    → o.failed ≡ false → s ≡ r → Facts bytes true DONE k o r s
 facts-end bytes k o r s all clean same = record {
   first = all-front bytes true k all;
   whole = λ _. all;
@@ -129,7 +133,8 @@ not-done-short A n k h (inl e) = absurd (cc)
 not-done-short A n k h (inr e) = absurd (omega (arith, e.0))
 
 -- a read failed, and all was answered
-facts-fault : (bytes : List ℕ) (k : List Entry) (o : Output) (r s : ℕ) → items bytes false ≡ requests k → o.failed ≡ false → Rose r s → length bytes < INPUT_LIMIT → Facts bytes false READ_FAULT k o r s
+facts-fault : (bytes : List ℕ) (k : List Entry) (o : Output) (r s : ℕ) → items bytes false ≡ requests k
+    → o.failed ≡ false → Rose r s → length bytes < INPUT_LIMIT → Facts bytes false READ_FAULT k o r s
 facts-fault bytes k o r s all clean rose short = record {
   first = all-front bytes false k all;
   whole = λ _. all;
@@ -152,7 +157,9 @@ not-done-going A n k g (inl e) = absurd (cc)
 not-done-going A n k g (inr e) = let d : true ≡ false = sym e.1 ∙ g in absurd (cc)
 
 -- the limit was taken, and all was answered, without Quit
-facts-limit : (bytes : List ℕ) (k : List Entry) (o : Output) (r s : ℕ) → items bytes false ≡ requests k → (place k).quit ≡ false → o.failed ≡ false → length bytes ≡ INPUT_LIMIT → s ≡ r → Facts bytes false TOO_LONG k o r s
+facts-limit : (bytes : List ℕ) (k : List Entry) (o : Output) (r s : ℕ) → items bytes false ≡ requests k
+    → (place k).quit ≡ false → o.failed ≡ false → length bytes ≡ INPUT_LIMIT → s ≡ r
+    → Facts bytes false TOO_LONG k o r s
 facts-limit bytes k o r s all going clean full same = record {
   first = all-front bytes false k all;
   whole = λ _. all;
@@ -170,7 +177,8 @@ facts-limit bytes k o r s all going clean full same = record {
 }
 
 -- the limit was taken, and all was answered up to Quit
-facts-quit : (bytes : List ℕ) (k : List Entry) (o : Output) (r s : ℕ) → items bytes false ≡ requests k → (place k).quit ≡ true → o.failed ≡ false → length bytes ≡ INPUT_LIMIT → s ≡ r → Facts bytes false DONE k o r s
+facts-quit : (bytes : List ℕ) (k : List Entry) (o : Output) (r s : ℕ) → items bytes false ≡ requests k
+    → (place k).quit ≡ true → o.failed ≡ false → length bytes ≡ INPUT_LIMIT → s ≡ r → Facts bytes false DONE k o r s
 facts-quit bytes k o r s all quit clean full same = record {
   first = all-front bytes false k all;
   whole = λ _. all;
@@ -187,8 +195,10 @@ facts-quit bytes k o r s all quit clean full same = record {
   known = inl refl;
 }
 
-facts : (stop : Stop) (answered : Answered) (bytes : List ℕ) (now : Option (List ℕ)) (k : List Entry) (o : Output) (r s : ℕ)
-    → IsStopped stop now r s (length bytes) → IsServed answered (items bytes (has_ended stop)) k o → Facts bytes (has_ended stop) (status_of stop answered) k o r s
+facts : (stop : Stop) (answered : Answered) (bytes : List ℕ) (now : Option (List ℕ)) (k : List Entry) (o : Output)
+    (r s : ℕ)
+    → IsStopped stop now r s (length bytes) → IsServed answered (items bytes (has_ended stop)) k o
+    → Facts bytes (has_ended stop) (status_of stop answered) k o r s
 facts stop (Lost loss) bytes now k o r s h a = facts-lost bytes (has_ended stop) loss k o r s a.0 a.1
 facts End All bytes now k o r s h a = facts-end bytes k o r s a.0 a.2 h.1
 facts End Quit bytes now k o r s h a = facts-end bytes k o r s a.0 a.2 h.1
@@ -201,7 +211,8 @@ facts NoMemory Quit bytes now k o r s h a = facts-lost bytes false WantOfMemory 
 
 -- ---- the bytes that were taken
 
-taken-is : (before now : Option (List ℕ)) (bytes : List ℕ) → Consumes before now bytes → IfSome before (λ all. IsTaken all now (length bytes))
+taken-is : (before now : Option (List ℕ)) (bytes : List ℕ) → Consumes before now bytes
+    → IfSome before (λ all. IsTaken all now (length bytes))
 taken-is None now bytes c = tt
 taken-is (Some all) None bytes c = absurd c
 taken-is (Some all) (Some rest) bytes c = record {
@@ -210,12 +221,14 @@ taken-is (Some all) (Some rest) bytes c = record {
 }
 
 -- what holds of the bytes taken holds of the first bytes of the source
-at-taken : (P : List ℕ → Type 0) (before now : Option (List ℕ)) (bytes : List ℕ) → Consumes before now bytes → P bytes → IfSome before (λ all. P (take (length bytes) all))
+at-taken : (P : List ℕ → Type 0) (before now : Option (List ℕ)) (bytes : List ℕ) → Consumes before now bytes → P bytes
+    → IfSome before (λ all. P (take (length bytes) all))
 at-taken P None now bytes c p = tt
 at-taken P (Some all) None bytes c p = absurd c
 at-taken P (Some all) (Some rest) bytes c p = subst P (sym (ap (take (length bytes)) c ∙ take_at bytes rest (length bytes) refl)) p
 
-nothing-left : (stop : Stop) (now : Option (List ℕ)) (r s n : ℕ) → IsStopped stop now r s n → has_ended stop ≡ true → IsAtEnd now
+nothing-left : (stop : Stop) (now : Option (List ℕ)) (r s n : ℕ) → IsStopped stop now r s n → has_ended stop ≡ true
+    → IsAtEnd now
 nothing-left End now r s n h e = h.0
 nothing-left Fault now r s n h e = absurd (cc)
 nothing-left Limit now r s n h e = absurd (cc)
@@ -223,7 +236,8 @@ nothing-left NoMemory now r s n h e = absurd (cc)
 
 -- ---- the bytes that were written
 
-written-all : (f g : Bool) (a b : Option (List ℕ)) (xs : List ℕ) → f ≡ false → g ≡ false → Grew f g a b xs → Appends a b xs
+written-all : (f g : Bool) (a b : Option (List ℕ)) (xs : List ℕ) → f ≡ false → g ≡ false → Grew f g a b xs
+    → Appends a b xs
 written-all f g a b xs e d w = subst (λ z. Grew z false a b xs) e (subst (λ z. Grew f z a b xs) d w)
 
 written-prefix : (g : Bool) (a b : Option (List ℕ)) (xs : List ℕ) → Grew false g a b xs → AppendsPrefix a b xs
@@ -291,7 +305,8 @@ pub record Told (before now : Option (List ℕ)) (r s : ℕ) (old new : Option (
   pub too_long : HasTooLongCause status taken at_end h
   pub complete : HasCompleteness before r s f g status taken at_end h
 
-legal-closed : (status taken : ℕ) (h : List Entry) → Legal h → (place h).closed ≡ false → HasLegalHistory status taken (h ++ Close ∷ [])
+legal-closed : (status taken : ℕ) (h : List Entry) → Legal h → (place h).closed ≡ false
+    → HasLegalHistory status taken (h ++ Close ∷ [])
 legal-closed status taken [] l o = (legal-grown start [] Close l o, ap (λ (p : Place). p.closed) (place-grown start [] Close))
 legal-closed status taken (e ∷ es) l o = (legal-grown start (e ∷ es) Close l o, ap (λ (p : Place). p.closed) (place-grown start (e ∷ es) Close))
 
@@ -310,23 +325,31 @@ done-closed : (n : ℕ) (e : Bool) (h k : List Entry) → (place k).quit ≡ (pl
 done-closed n e h k q (inl d) = inl d
 done-closed n e h k q (inr d) = inr (d.0, q ∙ d.1)
 
-completed : (before : Option (List ℕ)) (r s f g status taken : ℕ) (at_end : Bool) (h : List Entry) → IsStatus status → (status ≡ READ_FAULT → Rose r s) → (status ≡ WRITE_FAULT → Rose f g)
-    → (IsAnswered status → IfSome before (λ all. requests h ≡ items (take taken all) at_end)) → (any_short h ≡ false → AllWhole (outcomes h))
-    → (status ≡ DONE → IsDone taken at_end h) → (status ≡ TOO_LONG → IsTooLong taken at_end h) → HasCompleteness before r s f g status taken at_end h
+completed : (before : Option (List ℕ)) (r s f g status taken : ℕ) (at_end : Bool) (h : List Entry) → IsStatus status
+    → (status ≡ READ_FAULT → Rose r s) → (status ≡ WRITE_FAULT → Rose f g)
+    → (IsAnswered status → IfSome before (λ all. requests h ≡ items (take taken all) at_end))
+    → (any_short h ≡ false → AllWhole (outcomes h))
+    → (status ≡ DONE → IsDone taken at_end h) → (status ≡ TOO_LONG → IsTooLong taken at_end h)
+    → HasCompleteness before r s f g status taken at_end h
 completed before r s f g status taken at_end h (inl e) reads writes all whole done long sr sf = inr (inr (record { all = all (inl e); whole = whole; which = inl (e, done e) }))
 completed before r s f g status taken at_end h (inr (inl e)) reads writes all whole done long sr sf = absurd (let rose : Rose r s = reads e in omega arith)
 completed before r s f g status taken at_end h (inr (inr (inl e))) reads writes all whole done long sr sf = absurd (let rose : Rose f g = writes e in omega arith)
 completed before r s f g status taken at_end h (inr (inr (inr (inl e)))) reads writes all whole done long sr sf = inr (inl e)
 completed before r s f g status taken at_end h (inr (inr (inr (inr e)))) reads writes all whole done long sr sf = inr (inr (record { all = all (inr (inr e)); whole = whole; which = inr (e, long e) }))
 
-clean-from : (status f g : ℕ) (failed : Bool) → (IsAnswered status → failed ≡ false) → (failed ≡ true → Rose f g) → Stood f g ⊎ IsAnswered status → failed ≡ false
+clean-from : (status f g : ℕ) (failed : Bool) → (IsAnswered status → failed ≡ false) → (failed ≡ true → Rose f g)
+    → Stood f g ⊎ IsAnswered status → failed ≡ false
 clean-from status f g failed a r (inl h) = not-failed failed f g h r
 clean-from status f g failed a r (inr h) = a h
 
-told : (before now : Option (List ℕ)) (r s : ℕ) (bytes : List ℕ) (stop : Stop) (answered : Answered) (k : List Entry) (o : Output)
-    → Consumes before now bytes → length bytes ≤ INPUT_LIMIT → IsStopped stop now r s (length bytes) → IsServed answered (items bytes (has_ended stop)) k o
-    → (o.failed ≡ true → Rose o.first_faults o.faults) → Legal k → (place k).closed ≡ false → IsPut (fresh o) (render k) o
-    → Told before now r s o.first_written o.written o.first_faults o.faults (status_of stop answered) (length bytes) (has_ended stop) (k ++ Close ∷ [])
+told : (before now : Option (List ℕ)) (r s : ℕ) (bytes : List ℕ) (stop : Stop) (answered : Answered) (k : List Entry)
+    (o : Output)
+    → Consumes before now bytes → length bytes ≤ INPUT_LIMIT → IsStopped stop now r s (length bytes)
+    → IsServed answered (items bytes (has_ended stop)) k o
+    → (o.failed ≡ true → Rose o.first_faults o.faults) → Legal k → (place k).closed ≡ false
+    → IsPut (fresh o) (render k) o
+    → Told before now r s o.first_written o.written o.first_faults o.faults (status_of stop answered) (length bytes)
+    (has_ended stop) (k ++ Close ∷ [])
 told before now r s bytes stop answered k o taken limit stopped served cause legal going put =
     let h = k ++ Close ∷ [] in
     let e = has_ended stop in
@@ -363,10 +386,14 @@ told before now r s bytes stop answered k o taken limit stopped served cause leg
     }
 
 -- the same, as the code comes to it: n is how many bytes were taken
-pub told-is : (before now : Option (List ℕ)) (r s : ℕ) (bytes : List ℕ) (n : ℕ) (stop : Stop) (answered : Answered) (k : List Entry) (o : Output) (old new : Option (List ℕ)) (f g status taken : ℕ) (at_end : Bool) (h : List Entry)
-    → Consumes before now bytes → n ≡ length bytes → n ≤ INPUT_LIMIT → IsStopped stop now r s n → IsServed answered (items bytes (has_ended stop)) k o
-    → (o.failed ≡ true → Rose o.first_faults o.faults) → Legal k → (place k).closed ≡ false → IsPut (fresh o) (render k) o
-    → old ≡ o.first_written → new ≡ o.written → f ≡ o.first_faults → g ≡ o.faults → status ≡ status_of stop answered → taken ≡ n → at_end ≡ has_ended stop → h ≡ k ++ Close ∷ []
+pub told-is : (before now : Option (List ℕ)) (r s : ℕ) (bytes : List ℕ) (n : ℕ) (stop : Stop) (answered : Answered)
+    (k : List Entry) (o : Output) (old new : Option (List ℕ)) (f g status taken : ℕ) (at_end : Bool) (h : List Entry)
+    → Consumes before now bytes → n ≡ length bytes → n ≤ INPUT_LIMIT → IsStopped stop now r s n
+    → IsServed answered (items bytes (has_ended stop)) k o
+    → (o.failed ≡ true → Rose o.first_faults o.faults) → Legal k → (place k).closed ≡ false
+    → IsPut (fresh o) (render k) o
+    → old ≡ o.first_written → new ≡ o.written → f ≡ o.first_faults → g ≡ o.faults → status ≡ status_of stop answered
+    → taken ≡ n → at_end ≡ has_ended stop → h ≡ k ++ Close ∷ []
     → Told before now r s old new f g status taken at_end h
 told-is before now r s bytes n stop answered k o old new f g status taken at_end h consumed count limit stopped served cause legal going put a b c d e t z entries =
     rw (a, b, c, d, e, t ∙ count, z, entries)

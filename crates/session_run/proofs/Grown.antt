@@ -23,11 +23,13 @@ texts-append [] ls = refl
 texts-append (k ∷ ks) ls = ap (λ t. text_of k ++ t) (texts-append ks ls) ∙ sym (append_assoc (text_of k) (texts ks) (texts ls))
 
 -- the text of one line more
-texts_more : (ls : List Line) (i : ℕ) (l : Line) → i < length ls → texts (take (i + 1) ls) ≡ texts (take i ls) ++ text_of (get_or ls i l)
+texts_more : (ls : List Line) (i : ℕ) (l : Line) → i < length ls
+    → texts (take (i + 1) ls) ≡ texts (take i ls) ++ text_of (get_or ls i l)
 texts_more ls i l h = ap texts (take_more ls i l h) ∙ texts-append (take i ls) (get_or ls i l ∷ []) ∙ ap (λ t. texts (take i ls) ++ t) (append-nil (text_of (get_or ls i l)))
 
 -- the same, as a loop comes to it
-pub texts_step : (a b : List ℕ) (ls : List Line) (i : ℕ) (l : Line) → i < length ls → a ≡ texts (take i ls) → b ≡ a ++ text_of (get_or ls i l) → b ≡ texts (take (i + 1) ls)
+pub texts_step : (a b : List ℕ) (ls : List Line) (i : ℕ) (l : Line) → i < length ls → a ≡ texts (take i ls)
+    → b ≡ a ++ text_of (get_or ls i l) → b ≡ texts (take (i + 1) ls)
 texts_step a b ls i l h e f = f ∙ ap (λ t. t ++ text_of (get_or ls i l)) e ∙ sym (texts_more ls i l h)
 
 -- ---- histories
@@ -36,7 +38,8 @@ pub place-grown : (p : Place) (es : List Entry) (e : Entry) → place_from p (es
 place-grown p [] e = refl
 place-grown p (x ∷ es) e = place-grown (step p x) es e
 
-pub legal-grown : (p : Place) (es : List Entry) (e : Entry) → LegalFrom p es → Asks (place_from p es) e → LegalFrom p (es ++ e ∷ [])
+pub legal-grown : (p : Place) (es : List Entry) (e : Entry) → LegalFrom p es → Asks (place_from p es) e
+    → LegalFrom p (es ++ e ∷ [])
 legal-grown p [] e l a = (a, tt)
 legal-grown p (x ∷ es) e l a = (l.0, legal-grown (step p x) es e l.1 a)
 
@@ -44,7 +47,8 @@ pub render-grown : (es : List Entry) (e : Entry) → render (es ++ e ∷ []) ≡
 render-grown [] e = append-nil (rendered e)
 render-grown (x ∷ es) e = ap (λ t. rendered x ++ t) (render-grown es e) ∙ sym (append_assoc (rendered x) (render es) (rendered e))
 
-requests-grown : (es : List Entry) (n : ℕ) (q : Request) (cut : Cut) (ls : List Line) → requests (es ++ Command n q cut ls ∷ []) ≡ requests es ++ q ∷ []
+requests-grown : (es : List Entry) (n : ℕ) (q : Request) (cut : Cut) (ls : List Line)
+    → requests (es ++ Command n q cut ls ∷ []) ≡ requests es ++ q ∷ []
 requests-grown [] n q cut ls = refl
 requests-grown (Command m r c ks ∷ es) n q cut ls = ap (λ t. r ∷ t) (requests-grown es n q cut ls)
 requests-grown (Close ∷ es) n q cut ls = requests-grown es n q cut ls
@@ -64,7 +68,8 @@ pub commands_are : (es : List Entry) → (place es).commands ≡ length (request
 commands_are es = omega (arith, commands_from start es)
 
 -- what a legal history renders is what the one-thread document answers
-pub one_thread : (p : Place) (es : List Entry) → LegalFrom p es → render es ≡ answers_from p.document (requests es) (outcomes es)
+pub one_thread : (p : Place) (es : List Entry) → LegalFrom p es
+    → render es ≡ answers_from p.document (requests es) (outcomes es)
 one_thread p [] l = refl
 one_thread p (Command n q cut ls ∷ es) l =
     ap (λ z. texts z ++ render es) l.0.lines ∙ ap (λ t. texts (answer p.document q cut).lines ++ t) (one_thread (step p (Command n q cut ls)) es l.1)
@@ -76,8 +81,10 @@ same-start : (o p : Output) → p.first_written ≡ o.first_written → p.first_
 same-start o p w f = sym (ap (λ v. begun v p.first_faults) w ∙ ap (begun o.first_written) f)
 
 -- a kept session takes the entry that its place asks for
-kept-grown : (es : List Entry) (spare more : ℕ) (d : Document) (o p : Output) (item : FirstItem) (cut : Cut) → IsKept es spare d o → (place es).quit ≡ false → MayBe item cut
-    → IsPut o (texts (answer (place es).document (asked_request (place es) item) cut).lines) p → 0 < more → IsKept (es ++ asked (place es) item cut ∷ []) more (d ++ done_names item cut) p
+kept-grown : (es : List Entry) (spare more : ℕ) (d : Document) (o p : Output) (item : FirstItem) (cut : Cut)
+    → IsKept es spare d o → (place es).quit ≡ false → MayBe item cut
+    → IsPut o (texts (answer (place es).document (asked_request (place es) item) cut).lines) p → 0 < more
+    → IsKept (es ++ asked (place es) item cut ∷ []) more (d ++ done_names item cut) p
 kept-grown es spare more d o p item cut k going may put room =
     let e = asked (place es) item cut in
     let at = place-grown start es e in
@@ -93,9 +100,12 @@ kept-grown es spare more d o p item cut k going may put room =
     }
 
 -- the same, as the code comes to it
-pub kept-command : (es fs : List Entry) (spare more : ℕ) (d e : Document) (o p : Output) (item : FirstItem) (cut : Cut) (name : Option (List ℕ)) (said : Option Reply) (ls : List Line) (n : ℕ)
-    → IsKept es spare d o → (place es).quit ≡ false → IsPlan d item cut name said → n ≡ length es → ls ≡ tagged n (reply.Ack ∷ listed said ++ last_replies cut)
-    → IsPut o (texts ls) p → e ≡ d ++ listed name → fs ≡ es ++ Command n (record { tag = n; item = item }) cut ls ∷ [] → 0 < more
+pub kept-command : (es fs : List Entry) (spare more : ℕ) (d e : Document) (o p : Output) (item : FirstItem) (cut : Cut)
+    (name : Option (List ℕ)) (said : Option Reply) (ls : List Line) (n : ℕ)
+    → IsKept es spare d o → (place es).quit ≡ false → IsPlan d item cut name said → n ≡ length es
+    → ls ≡ tagged n (reply.Ack ∷ listed said ++ last_replies cut)
+    → IsPut o (texts ls) p → e ≡ d ++ listed name → fs ≡ es ++ Command n (record { tag = n; item = item }) cut ls ∷ []
+    → 0 < more
     → IsKept fs more e p × (fs ≡ es ++ asked (place es) item cut ∷ [])
 kept-command es fs spare more d e o p item cut name said ls n k going plan at lines put names entries room =
     let number : n ≡ (place es).commands = at ∙ sym k.commands in
@@ -110,7 +120,8 @@ kept-command es fs spare more d e o p item cut name said ls n k going plan at li
     (rw (whole, document) (kept-grown es spare more d o p item cut k going plan.may put_is room), whole)
 
 -- the entry that the place asks for takes the item in
-pub takes_in : (h k : List Entry) (item : FirstItem) (cut : Cut) → k ≡ h ++ asked (place h) item cut ∷ [] → TakesIn h item k
+pub takes_in : (h k : List Entry) (item : FirstItem) (cut : Cut) → k ≡ h ++ asked (place h) item cut ∷ []
+    → TakesIn h item k
 takes_in h k item cut e =
     let a = asked (place h) item cut in
     (ap requests e ∙ requests-grown h _ (asked_request (place h) item) cut _, ap (λ z. (place z).quit) e ∙ ap (λ (s : Place). s.quit) (place-grown start h a))

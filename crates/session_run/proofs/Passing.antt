@@ -22,13 +22,15 @@ use Rattle.session_run.specs.declared.history.Entry.{Entry}
 split_positive : (bytes : List ℕ) → (n : ℕ) × (length (slice_split is_newline bytes) ≡ n + 1)
 split_positive bytes = (_, length-slice_split is_newline bytes)
 
-take_one_less : (x : List ℕ) (xs : List (List ℕ)) (n : ℕ) → length xs ≡ n + 1 → take (length (x ∷ xs) - 1) (x ∷ xs) ≡ x ∷ take (length xs - 1) xs
+take_one_less : (x : List ℕ) (xs : List (List ℕ)) (n : ℕ) → length xs ≡ n + 1
+    → take (length (x ∷ xs) - 1) (x ∷ xs) ≡ x ∷ take (length xs - 1) xs
 take_one_less x xs n e =
     let a : length (x ∷ xs) - 1 ≡ suc (length xs - 1) = omega arith in
     ap (λ k. take k (x ∷ xs)) a
 
 -- a whole line is the first of the lines
-pub lines-line : (line rest : List ℕ) (ended : Bool) → All (λ b. is_newline b ≡ false) line → lines (line ++ 10 ∷ rest) ended ≡ line ∷ lines rest ended
+pub lines-line : (line rest : List ℕ) (ended : Bool) → All (λ b. is_newline b ≡ false) line
+    → lines (line ++ 10 ∷ rest) ended ≡ line ∷ lines rest ended
 lines-line line rest true a = slice_split_at is_newline line 10 rest a refl
 lines-line line rest false a =
     let e = slice_split_at is_newline line 10 rest a refl in
@@ -44,7 +46,8 @@ lines_none text a = ap (λ parts. take (length parts - 1) parts) (slice_split_no
 
 -- ---- requests of lines
 
-requests-blank : (n : ℕ) (line : List ℕ) (rest : List (List ℕ)) → is_blank line ≡ true → requests_from n (line ∷ rest) ≡ requests_from n rest
+requests-blank : (n : ℕ) (line : List ℕ) (rest : List (List ℕ)) → is_blank line ≡ true
+    → requests_from n (line ∷ rest) ≡ requests_from n rest
 requests-blank n line rest b = rw b refl
 
 requests-written : (n : ℕ) (line : List ℕ) (rest : List (List ℕ)) → is_blank line ≡ false
@@ -54,11 +57,13 @@ requests-written n line rest b = rw b refl
 -- ---- a line is passed
 
 -- what is left before a line that was blank
-leaves-blank : (all : List Request) (h : List Entry) (line : List ℕ) (rest : List (List ℕ)) → is_blank line ≡ true → Leaves all h (line ∷ rest) → Leaves all h rest
+leaves-blank : (all : List Request) (h : List Entry) (line : List ℕ) (rest : List (List ℕ)) → is_blank line ≡ true
+    → Leaves all h (line ∷ rest) → Leaves all h rest
 leaves-blank all h line rest b l = l ∙ ap (λ z. requests h ++ (if (place h).quit then [] else z)) (requests-blank (length (requests h)) line rest b)
 
 -- what was left before a line that asks for something: its request, and those behind it
-leaves-written : (all : List Request) (h : List Entry) (line : List ℕ) (rest : List (List ℕ)) → (place h).quit ≡ false → is_blank line ≡ false → Leaves all h (line ∷ rest)
+leaves-written : (all : List Request) (h : List Entry) (line : List ℕ) (rest : List (List ℕ)) → (place h).quit ≡ false
+    → is_blank line ≡ false → Leaves all h (line ∷ rest)
     → all ≡ (requests h ++ asked_request (place h) (item_of line) ∷ []) ++ (if ends_session (item_of line) then [] else requests_from (length (requests h) + 1) rest)
 leaves-written all h line rest g b l =
     let X = requests_from (length (requests h) + 1) rest in
@@ -70,7 +75,8 @@ leaves-written all h line rest g b l =
     ∙ ap (λ z. (requests h ++ z ∷ []) ++ (if ends_session (item_of line) then [] else X)) same
 
 -- what is left behind an item that was taken in
-leaves-taken : (all : List Request) (h k : List Entry) (line : List ℕ) (rest : List (List ℕ)) → (place h).quit ≡ false → is_blank line ≡ false → TakesIn h (item_of line) k
+leaves-taken : (all : List Request) (h k : List Entry) (line : List ℕ) (rest : List (List ℕ)) → (place h).quit ≡ false
+    → is_blank line ≡ false → TakesIn h (item_of line) k
     → Leaves all h (line ∷ rest) → Leaves all k rest
 leaves-taken all h k line rest g b t l =
     let count : length (requests k) ≡ length (requests h) + 1 = ap length t.0 ∙ length_push (requests h) (asked_request (place h) (item_of line)) in
@@ -79,19 +85,23 @@ leaves-taken all h k line rest g b t l =
     ∙ ap (λ n. requests k ++ (if ends_session (item_of line) then [] else requests_from n rest)) (sym count)
     ∙ ap (λ (z : Bool). requests k ++ (if z then [] else requests_from (length (requests k)) rest)) (sym t.1)
 
-leaves-quit : (all : List Request) (k : List Entry) (rest : List (List ℕ)) → (place k).quit ≡ true → Leaves all k rest → all ≡ requests k
+leaves-quit : (all : List Request) (k : List Entry) (rest : List (List ℕ)) → (place k).quit ≡ true → Leaves all k rest
+    → all ≡ requests k
 leaves-quit all k rest q l = l ∙ ap (λ (z : Bool). requests k ++ (if z then [] else requests_from (length (requests k)) rest)) q ∙ append-nil (requests k)
 
 -- a blank line changes nothing
-pub passes-blank : (h : List Entry) (line : List ℕ) (o : Output) → is_blank line ≡ true → (place h).quit ≡ false → o.failed ≡ false → Passes Whole h line h o
+pub passes-blank : (h : List Entry) (line : List ℕ) (o : Output) → is_blank line ≡ true → (place h).quit ≡ false
+    → o.failed ≡ false → Passes Whole h line h o
 passes-blank h line o b g c = (λ all rest l. leaves-blank all h line rest b l, g, c)
 
 -- memory was wanting to read the line
-pub passes-lost : (h : List Entry) (line : List ℕ) (loss : Loss) (o : Output) → IsLost loss o → Passes (Lost loss) h line h o
+pub passes-lost : (h : List Entry) (line : List ℕ) (loss : Loss) (o : Output) → IsLost loss o
+    → Passes (Lost loss) h line h o
 passes-lost h line loss o l = (λ all rest e. (left_requests h (line ∷ rest), e), l)
 
 -- an item that was answered passes its line
-pub passes-item : (a : Answered) (h k : List Entry) (line : List ℕ) (item : FirstItem) (o : Output) → (place h).quit ≡ false → is_blank line ≡ false → item ≡ item_of line
+pub passes-item : (a : Answered) (h k : List Entry) (line : List ℕ) (item : FirstItem) (o : Output)
+    → (place h).quit ≡ false → is_blank line ≡ false → item ≡ item_of line
     → Takes a h item k o → Passes a h line k o
 passes-item Whole h k line item o g b e t =
     let taken : TakesIn h (item_of line) k = subst (λ z. TakesIn h z k) e t.0 in
@@ -110,11 +120,13 @@ passes-item (Lost loss) h k line item o g b e t = (λ all rest l. begins-lost h 
 -- ---- the whole text
 
 -- before the first line
-pub leaves-start : (all : List Request) (h : List Entry) (ls : List (List ℕ)) → h ≡ [] → all ≡ requests_from 0 ls → Leaves all h ls
+pub leaves-start : (all : List Request) (h : List Entry) (ls : List (List ℕ)) → h ≡ [] → all ≡ requests_from 0 ls
+    → Leaves all h ls
 leaves-start all h ls e a = rw e a
 
 -- at the end of the text nothing is left
-pub served-none : (all : List Request) (k : List Entry) (ls : List (List ℕ)) (o : Output) → ls ≡ [] → (place k).quit ≡ false → o.failed ≡ false → Leaves all k ls → IsServed Whole all k o
+pub served-none : (all : List Request) (k : List Entry) (ls : List (List ℕ)) (o : Output) → ls ≡ []
+    → (place k).quit ≡ false → o.failed ≡ false → Leaves all k ls → IsServed Whole all k o
 served-none all k ls o e g c l = (
   l ∙ ap (λ z. requests k ++ (if (place k).quit then [] else requests_from (length (requests k)) z)) e
       ∙ ap (λ (z : Bool). requests k ++ (if z then [] else [])) g ∙ append-nil (requests k),
@@ -123,24 +135,28 @@ served-none all k ls o e g c l = (
 )
 
 -- the last line was passed
-pub served-passed : (a : Answered) (all : List Request) (h k : List Entry) (line : List ℕ) (rest : List (List ℕ)) (o : Output) → Leaves all h (line ∷ rest) → Passes a h line k o
+pub served-passed : (a : Answered) (all : List Request) (h k : List Entry) (line : List ℕ) (rest : List (List ℕ))
+    (o : Output) → Leaves all h (line ∷ rest) → Passes a h line k o
     → (a ≡ Whole → rest ≡ []) → IsServed a all k o
 served-passed Whole all h k line rest o l p e = served-none all k rest o (e refl) p.1 p.2 (p.0 all rest l)
 served-passed Quit all h k line rest o l p e = (p.0 all rest l, p.1, p.2)
 served-passed (Lost loss) all h k line rest o l p e = (p.0 all rest l, p.1)
 
 -- the first line of what is left
-pub leaves-line : (all : List Request) (h : List Entry) (rest line behind : List ℕ) (ended : Bool) → (rest ≡ line ++ 10 ∷ behind) × All (λ b. is_newline b ≡ false) line
+pub leaves-line : (all : List Request) (h : List Entry) (rest line behind : List ℕ) (ended : Bool)
+    → (rest ≡ line ++ 10 ∷ behind) × All (λ b. is_newline b ≡ false) line
     → Leaves all h (lines rest ended) → Leaves all h (line ∷ lines behind ended)
 leaves-line all h rest line behind ended p l = subst (Leaves all h) (ap (λ t. lines t ended) p.0 ∙ lines-line line behind ended p.1) l
 
 -- what is left without a byte 10 is a line at the end of the input
-pub leaves-last : (all : List Request) (h : List Entry) (rest : List ℕ) (ended : Bool) → ended ≡ true → All (λ b. is_newline b ≡ false) rest
+pub leaves-last : (all : List Request) (h : List Entry) (rest : List ℕ) (ended : Bool) → ended ≡ true
+    → All (λ b. is_newline b ≡ false) rest
     → Leaves all h (lines rest ended) → Leaves all h (rest ∷ [])
 leaves-last all h rest ended e a l = subst (Leaves all h) (ap (lines rest) e ∙ lines_last rest a) l
 
 -- and no line before
-pub served-rest : (all : List Request) (k : List Entry) (rest : List ℕ) (ended : Bool) (o : Output) → ended ≡ false → All (λ b. is_newline b ≡ false) rest → (place k).quit ≡ false → o.failed ≡ false
+pub served-rest : (all : List Request) (k : List Entry) (rest : List ℕ) (ended : Bool) (o : Output) → ended ≡ false
+    → All (λ b. is_newline b ≡ false) rest → (place k).quit ≡ false → o.failed ≡ false
     → Leaves all k (lines rest ended) → IsServed Whole all k o
 served-rest all k rest ended o e a g c l = served-none all k (lines rest ended) o (ap (lines rest) e ∙ lines_none rest a) g c l
 
