@@ -1,0 +1,42 @@
+use Rattle.fol_theory.proofs.Laws as laws
+use Rattle.fol_theory.proofs.AtIndex as indices
+use Rattle.fol_theory.proofs.substitution.substitutions_compose.Goals as goal
+
+pub returns-clause-twice : goal.returns-clause-twice
+returns-clause-twice c = laws.replace_twice
+
+pub returns-clause-term_twice : goal.returns-clause-term_twice
+returns-clause-term_twice c = laws.term_twice
+
+pub returns-clause-lift_twice : goal.returns-clause-lift_twice
+returns-clause-lift_twice c = laws.lift_twice
+
+pub returns-clause-identity : goal.returns-clause-identity
+returns-clause-identity c = laws.replace_identity
+
+pub returns-clause-term_identity : goal.returns-clause-term_identity
+returns-clause-term_identity c = laws.term_identity
+
+pub returns-clause-lift_identity : goal.returns-clause-lift_identity
+returns-clause-lift_identity c = laws.lift_identity
+
+pub returns-clause-under : goal.returns-clause-under
+returns-clause-under c = laws.replace_under
+
+pub returns-clause-instantiate : goal.returns-clause-instantiate
+returns-clause-instantiate c = laws.replace_instantiate
+
+pub returns-clause-unused : goal.returns-clause-unused
+returns-clause-unused c = laws.instantiate_under
+
+pub returns-clause-lift_raise : goal.returns-clause-lift_raise
+returns-clause-lift_raise c = indices.lift_raise
+
+pub returns-clause-lift_put : goal.returns-clause-lift_put
+returns-clause-lift_put c = indices.lift_put
+
+pub returns-clause-next : goal.returns-clause-next
+returns-clause-next c = indices.next_raise
+
+pub returns-clause-first : goal.returns-clause-first
+returns-clause-first c = indices.first_put

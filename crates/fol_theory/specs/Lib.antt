@@ -1,0 +1,5 @@
+pub mod Syntax
+pub mod Substitution
+pub mod Measures
+pub mod Printing
+pub mod Contexts

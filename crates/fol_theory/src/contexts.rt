@@ -1,0 +1,17 @@
+//! The laws of contexts.
+ghost use Rattle.std.specs.Prelude.{◌≡◌, ◌↔◌, ◌∷◌, ℕ, List, map, length};
+ghost use Rattle.fol_theory.specs.Syntax.{Formula};
+ghost use Rattle.fol_theory.specs.Substitution.{under};
+ghost use Rattle.fol_theory.specs.Contexts.{Entry, variable, hypothesis, variables, hypotheses, count, IsHypothesis, IsFromLast, omit, without};
+
+/// What a context becomes by a variable more, by a hypothesis more, and without a hypothesis.
+pub fn contexts_grow_and_shrink()
+    ensures variable_variables { (s : List ℕ) (c : List Entry) → variables (variable s ∷ c) ≡ s ∷ variables c }
+    ensures variable_hypotheses { (s : List ℕ) (c : List Entry) → hypotheses (variable s ∷ c) ≡ map under (hypotheses c) }
+    ensures hypothesis_variables { (a : Formula) (c : List Entry) → variables (hypothesis a ∷ c) ≡ variables c }
+    ensures hypothesis_hypotheses { (a : Formula) (c : List Entry) → hypotheses (hypothesis a ∷ c) ≡ a ∷ hypotheses c }
+    ensures without_variables { (c : List Entry) (i : ℕ) → variables (without c i) ≡ variables c }
+    ensures without_hypotheses { (c : List Entry) (i : ℕ) → hypotheses (without c i) ≡ omit i (hypotheses c) }
+    ensures count { (c : List Entry) → length (hypotheses c) ≡ count c }
+    ensures numbered { (c : List Entry) (i : ℕ) (a : Formula) → IsHypothesis c i a ↔ IsFromLast (hypotheses c) i a }
+{}

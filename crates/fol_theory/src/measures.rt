@@ -1,0 +1,19 @@
+//! The laws of nodes and height.
+ghost use Rattle.std.specs.Prelude.{◌≡◌, ◌+◌, ◌*◌, ◌≤◌, ℕ};
+ghost use Rattle.fol_theory.specs.Syntax.{Term, Formula};
+ghost use Rattle.fol_theory.specs.Substitution.{replace, shift, shift_term, substitute, substitute_term};
+ghost use Rattle.fol_theory.specs.Measures.{nodes, term_nodes, height, term_height, depth};
+
+/// A shift keeps nodes and height. A substitution makes neither less; it makes the nodes at most as many times as
+/// many as the value has, and the height at most greater by the value's. No binder comes or goes.
+pub fn replacing_is_measured()
+    ensures shift_nodes { (from by : ℕ) (a : Formula) → nodes (shift from by a) ≡ nodes a }
+    ensures shift_height { (from by : ℕ) (a : Formula) → height (shift from by a) ≡ height a }
+    ensures shift_term_nodes { (from by : ℕ) (t : Term) → term_nodes (shift_term from by t) ≡ term_nodes t }
+    ensures shift_term_height { (from by : ℕ) (t : Term) → term_height (shift_term from by t) ≡ term_height t }
+    ensures substitute_nodes_least { (k : ℕ) (v : Term) (a : Formula) → nodes a ≤ nodes (substitute k v a) }
+    ensures substitute_nodes_most { (k : ℕ) (v : Term) (a : Formula) → nodes (substitute k v a) ≤ nodes a * term_nodes v }
+    ensures substitute_height_least { (k : ℕ) (v : Term) (a : Formula) → height a ≤ height (substitute k v a) }
+    ensures substitute_height_most { (k : ℕ) (v : Term) (a : Formula) → height (substitute k v a) ≤ height a + term_height v }
+    ensures depth { (σ : ℕ → Term) (a : Formula) → depth (replace σ a) ≡ depth a }
+{}

@@ -1,0 +1,191 @@
+-- What each variant stands for, and what a substitution and the measures make of it.
+use Rattle.std.proofs.Common.{◌≡◌, ℕ, ◌+◌, max, List, [], map, ap, sym, ◌∙◌}
+use Rattle.std.specs.Prelude.{Vec, Box}
+use Rattle.std.specs.declared.alloc.Global.{Global}
+use Rattle.fol_theory.specs.Syntax.{Term as TermMeaning, Formula as Meaning, truth, falsity, pred, equal, both, either, implies, all, ex, terms}
+use Rattle.fol_theory.specs.Substitution.{replace_term, replace, lift, raise, put}
+use Rattle.fol_theory.specs.Measures.{term_nodes, terms_nodes, nodes, term_height, terms_height, height, term_reach, terms_reach, reach, depth}
+use Rattle.fol_theory.specs.Printing.{unnamed}
+use Rattle.fol_theory.proofs.Laws.{replace_each}
+use Rattle.fol_theory.proofs.AtIndex.{lift_put, shift_once_more, shift_none}
+use Rattle.term_core.specs.Term as term
+use Rattle.term_core.specs.Formula.{meaning, meaning_step}
+use Rattle.term_core.specs.declared.term.Term.{Term}
+use Rattle.term_core.specs.declared.formula.Formula.{Formula}
+use Rattle.term_core.specs.declared.formula.Formula.TheOpen as layer
+use Rattle.term_core.specs.declared.formula.Formula.TheVariants as made
+use Rattle.term_core.specs.declared.formula.Formula.TheFolds.{fold-roll-Formula}
+
+pub meaning_True : meaning made.True ≡ truth
+meaning_True = ap meaning (sym made.rolls-True) ∙ fold-roll-Formula Meaning meaning_step layer.True
+
+pub meaning_False : meaning made.False ≡ falsity
+meaning_False = ap meaning (sym made.rolls-False) ∙ fold-roll-Formula Meaning meaning_step layer.False
+
+pub meaning_Pred : (p : List ℕ) (ts : Vec Term Global) → meaning (made.Pred p ts) ≡ pred p (terms (map term.meaning ts.items))
+meaning_Pred p ts = ap meaning (sym (made.rolls-Pred p ts)) ∙ fold-roll-Formula Meaning meaning_step (layer.Pred p ts)
+
+pub meaning_Eq : (s : List ℕ) (a b : Term) → meaning (made.Eq s a b) ≡ equal s (term.meaning a) (term.meaning b)
+meaning_Eq s a b = ap meaning (sym (made.rolls-Eq s a b)) ∙ fold-roll-Formula Meaning meaning_step (layer.Eq s a b)
+
+pub meaning_And : (a b : Box Formula Global) → meaning (made.And a b) ≡ both (meaning a.value) (meaning b.value)
+meaning_And a b = ap meaning (sym (made.rolls-And a b)) ∙ fold-roll-Formula Meaning meaning_step (layer.And a b)
+
+pub meaning_Or : (a b : Box Formula Global) → meaning (made.Or a b) ≡ either (meaning a.value) (meaning b.value)
+meaning_Or a b = ap meaning (sym (made.rolls-Or a b)) ∙ fold-roll-Formula Meaning meaning_step (layer.Or a b)
+
+pub meaning_Imp : (a b : Box Formula Global) → meaning (made.Imp a b) ≡ implies (meaning a.value) (meaning b.value)
+meaning_Imp a b = ap meaning (sym (made.rolls-Imp a b)) ∙ fold-roll-Formula Meaning meaning_step (layer.Imp a b)
+
+pub meaning_All : (s x : List ℕ) (a : Box Formula Global) → meaning (made.All s x a) ≡ all s x (meaning a.value)
+meaning_All s x a = ap meaning (sym (made.rolls-All s x a)) ∙ fold-roll-Formula Meaning meaning_step (layer.All s x a)
+
+pub meaning_Ex : (s x : List ℕ) (a : Box Formula Global) → meaning (made.Ex s x a) ≡ ex s x (meaning a.value)
+meaning_Ex s x a = ap meaning (sym (made.rolls-Ex s x a)) ∙ fold-roll-Formula Meaning meaning_step (layer.Ex s x a)
+
+-- ---- a substitution
+
+pub replace_Pred : (σ : ℕ → TermMeaning) (p : List ℕ) (ts : Vec Term Global) → replace σ (meaning (made.Pred p ts)) ≡ pred p (terms (map (replace_term σ) (map term.meaning ts.items)))
+replace_Pred σ p ts = ap (replace σ) (meaning_Pred p ts) ∙ ap (pred p) (replace_each σ (map term.meaning ts.items))
+
+pub replace_Eq : (σ : ℕ → TermMeaning) (s : List ℕ) (a b : Term) → replace σ (meaning (made.Eq s a b)) ≡ equal s (replace_term σ (term.meaning a)) (replace_term σ (term.meaning b))
+replace_Eq σ s a b = ap (replace σ) (meaning_Eq s a b)
+
+pub replace_And : (σ : ℕ → TermMeaning) (a b : Box Formula Global) → replace σ (meaning (made.And a b)) ≡ both (replace σ (meaning a.value)) (replace σ (meaning b.value))
+replace_And σ a b = ap (replace σ) (meaning_And a b)
+
+pub replace_Or : (σ : ℕ → TermMeaning) (a b : Box Formula Global) → replace σ (meaning (made.Or a b)) ≡ either (replace σ (meaning a.value)) (replace σ (meaning b.value))
+replace_Or σ a b = ap (replace σ) (meaning_Or a b)
+
+pub replace_Imp : (σ : ℕ → TermMeaning) (a b : Box Formula Global) → replace σ (meaning (made.Imp a b)) ≡ implies (replace σ (meaning a.value)) (replace σ (meaning b.value))
+replace_Imp σ a b = ap (replace σ) (meaning_Imp a b)
+
+pub reach_Pred : (σ : ℕ → TermMeaning) (p : List ℕ) (ts : Vec Term Global) → reach (replace σ (meaning (made.Pred p ts))) ≡ terms_reach (terms (map (replace_term σ) (map term.meaning ts.items)))
+reach_Pred σ p ts = ap reach (replace_Pred σ p ts)
+
+pub reach_Eq : (σ : ℕ → TermMeaning) (s : List ℕ) (a b : Term) → reach (replace σ (meaning (made.Eq s a b))) ≡ max (term_reach (replace_term σ (term.meaning a))) (term_reach (replace_term σ (term.meaning b)))
+reach_Eq σ s a b = ap reach (replace_Eq σ s a b)
+
+pub reach_And : (σ : ℕ → TermMeaning) (a b : Box Formula Global) → reach (replace σ (meaning (made.And a b))) ≡ max (reach (replace σ (meaning a.value))) (reach (replace σ (meaning b.value)))
+reach_And σ a b = ap reach (replace_And σ a b)
+
+pub reach_Or : (σ : ℕ → TermMeaning) (a b : Box Formula Global) → reach (replace σ (meaning (made.Or a b))) ≡ max (reach (replace σ (meaning a.value))) (reach (replace σ (meaning b.value)))
+reach_Or σ a b = ap reach (replace_Or σ a b)
+
+pub reach_Imp : (σ : ℕ → TermMeaning) (a b : Box Formula Global) → reach (replace σ (meaning (made.Imp a b))) ≡ max (reach (replace σ (meaning a.value))) (reach (replace σ (meaning b.value)))
+reach_Imp σ a b = ap reach (replace_Imp σ a b)
+
+pub replace_All : (σ : ℕ → TermMeaning) (s x : List ℕ) (a : Box Formula Global) → replace σ (meaning (made.All s x a)) ≡ all s x (replace (lift σ) (meaning a.value))
+replace_All σ s x a = ap (replace σ) (meaning_All s x a)
+
+pub replace_Ex : (σ : ℕ → TermMeaning) (s x : List ℕ) (a : Box Formula Global) → replace σ (meaning (made.Ex s x a)) ≡ ex s x (replace (lift σ) (meaning a.value))
+replace_Ex σ s x a = ap (replace σ) (meaning_Ex s x a)
+
+-- ---- under a binder
+
+pub lift_put_more : (i : ℕ) (v : TermMeaning) (n : ℕ) → lift (put i (replace_term (raise 0 n) v)) ≡ put (i + 1) (replace_term (raise 0 (n + 1)) v)
+lift_put_more i v n = lift_put i (replace_term (raise 0 n) v) ∙ ap (put (i + 1)) (shift_once_more n v)
+
+-- ---- depth
+
+pub depth_Pred : (p : List ℕ) (ts : Vec Term Global) → depth (meaning (made.Pred p ts)) ≡ 0
+depth_Pred p ts = ap depth (meaning_Pred p ts)
+
+pub depth_Eq : (s : List ℕ) (a b : Term) → depth (meaning (made.Eq s a b)) ≡ 0
+depth_Eq s a b = ap depth (meaning_Eq s a b)
+
+pub depth_And : (a b : Box Formula Global) → depth (meaning (made.And a b)) ≡ max (depth (meaning a.value)) (depth (meaning b.value))
+depth_And a b = ap depth (meaning_And a b)
+
+pub depth_Or : (a b : Box Formula Global) → depth (meaning (made.Or a b)) ≡ max (depth (meaning a.value)) (depth (meaning b.value))
+depth_Or a b = ap depth (meaning_Or a b)
+
+pub depth_Imp : (a b : Box Formula Global) → depth (meaning (made.Imp a b)) ≡ max (depth (meaning a.value)) (depth (meaning b.value))
+depth_Imp a b = ap depth (meaning_Imp a b)
+
+pub depth_All : (s x : List ℕ) (a : Box Formula Global) → depth (meaning (made.All s x a)) ≡ depth (meaning a.value) + 1
+depth_All s x a = ap depth (meaning_All s x a)
+
+pub depth_Ex : (s x : List ℕ) (a : Box Formula Global) → depth (meaning (made.Ex s x a)) ≡ depth (meaning a.value) + 1
+depth_Ex s x a = ap depth (meaning_Ex s x a)
+
+-- ---- nodes
+
+pub nodes_Pred : (p : List ℕ) (ts : Vec Term Global) → nodes (meaning (made.Pred p ts)) ≡ terms_nodes (terms (map term.meaning ts.items)) + 1
+nodes_Pred p ts = ap nodes (meaning_Pred p ts)
+
+pub nodes_Eq : (s : List ℕ) (a b : Term) → nodes (meaning (made.Eq s a b)) ≡ term_nodes (term.meaning a) + term_nodes (term.meaning b) + 1
+nodes_Eq s a b = ap nodes (meaning_Eq s a b)
+
+pub nodes_And : (a b : Box Formula Global) → nodes (meaning (made.And a b)) ≡ nodes (meaning a.value) + nodes (meaning b.value) + 1
+nodes_And a b = ap nodes (meaning_And a b)
+
+pub nodes_Or : (a b : Box Formula Global) → nodes (meaning (made.Or a b)) ≡ nodes (meaning a.value) + nodes (meaning b.value) + 1
+nodes_Or a b = ap nodes (meaning_Or a b)
+
+pub nodes_Imp : (a b : Box Formula Global) → nodes (meaning (made.Imp a b)) ≡ nodes (meaning a.value) + nodes (meaning b.value) + 1
+nodes_Imp a b = ap nodes (meaning_Imp a b)
+
+pub nodes_All : (s x : List ℕ) (a : Box Formula Global) → nodes (meaning (made.All s x a)) ≡ nodes (meaning a.value) + 1
+nodes_All s x a = ap nodes (meaning_All s x a)
+
+pub nodes_Ex : (s x : List ℕ) (a : Box Formula Global) → nodes (meaning (made.Ex s x a)) ≡ nodes (meaning a.value) + 1
+nodes_Ex s x a = ap nodes (meaning_Ex s x a)
+
+-- ---- height
+
+pub height_Pred : (p : List ℕ) (ts : Vec Term Global) → height (meaning (made.Pred p ts)) ≡ terms_height (terms (map term.meaning ts.items)) + 1
+height_Pred p ts = ap height (meaning_Pred p ts)
+
+pub height_Eq : (s : List ℕ) (a b : Term) → height (meaning (made.Eq s a b)) ≡ max (term_height (term.meaning a)) (term_height (term.meaning b)) + 1
+height_Eq s a b = ap height (meaning_Eq s a b)
+
+pub height_And : (a b : Box Formula Global) → height (meaning (made.And a b)) ≡ max (height (meaning a.value)) (height (meaning b.value)) + 1
+height_And a b = ap height (meaning_And a b)
+
+pub height_Or : (a b : Box Formula Global) → height (meaning (made.Or a b)) ≡ max (height (meaning a.value)) (height (meaning b.value)) + 1
+height_Or a b = ap height (meaning_Or a b)
+
+pub height_Imp : (a b : Box Formula Global) → height (meaning (made.Imp a b)) ≡ max (height (meaning a.value)) (height (meaning b.value)) + 1
+height_Imp a b = ap height (meaning_Imp a b)
+
+pub height_All : (s x : List ℕ) (a : Box Formula Global) → height (meaning (made.All s x a)) ≡ height (meaning a.value) + 1
+height_All s x a = ap height (meaning_All s x a)
+
+pub height_Ex : (s x : List ℕ) (a : Box Formula Global) → height (meaning (made.Ex s x a)) ≡ height (meaning a.value) + 1
+height_Ex s x a = ap height (meaning_Ex s x a)
+
+-- ---- unnamed
+
+pub unnamed_Pred : (p : List ℕ) (ts : Vec Term Global) → unnamed (meaning (made.Pred p ts)) ≡ pred p (terms (map term.meaning ts.items))
+unnamed_Pred p ts = ap unnamed (meaning_Pred p ts)
+
+pub unnamed_Eq : (s : List ℕ) (a b : Term) → unnamed (meaning (made.Eq s a b)) ≡ equal s (term.meaning a) (term.meaning b)
+unnamed_Eq s a b = ap unnamed (meaning_Eq s a b)
+
+pub unnamed_And : (a b : Box Formula Global) → unnamed (meaning (made.And a b)) ≡ both (unnamed (meaning a.value)) (unnamed (meaning b.value))
+unnamed_And a b = ap unnamed (meaning_And a b)
+
+pub unnamed_Or : (a b : Box Formula Global) → unnamed (meaning (made.Or a b)) ≡ either (unnamed (meaning a.value)) (unnamed (meaning b.value))
+unnamed_Or a b = ap unnamed (meaning_Or a b)
+
+pub unnamed_Imp : (a b : Box Formula Global) → unnamed (meaning (made.Imp a b)) ≡ implies (unnamed (meaning a.value)) (unnamed (meaning b.value))
+unnamed_Imp a b = ap unnamed (meaning_Imp a b)
+
+pub unnamed_All : (s x : List ℕ) (a : Box Formula Global) → unnamed (meaning (made.All s x a)) ≡ all s [] (unnamed (meaning a.value))
+unnamed_All s x a = ap unnamed (meaning_All s x a)
+
+pub unnamed_Ex : (s x : List ℕ) (a : Box Formula Global) → unnamed (meaning (made.Ex s x a)) ≡ ex s [] (unnamed (meaning a.value))
+unnamed_Ex s x a = ap unnamed (meaning_Ex s x a)
+
+-- ---- the sets that the functions name
+
+pub ruleset meanings = (meaning_Pred, meaning_Eq, meaning_And, meaning_Or, meaning_Imp, meaning_All, meaning_Ex)
+
+pub ruleset replacements = (meanings, replace_Pred, replace_Eq, replace_And, replace_Or, replace_Imp, replace_All, replace_Ex, reach_Pred, reach_Eq, reach_And, reach_Or, reach_Imp, depth_Pred, depth_Eq, depth_And, depth_Or, depth_Imp, depth_All, depth_Ex)
+
+pub ruleset sizes = (nodes_Pred, nodes_Eq, nodes_And, nodes_Or, nodes_Imp, nodes_All, nodes_Ex)
+
+pub ruleset heights = (height_Pred, height_Eq, height_And, height_Or, height_Imp, height_All, height_Ex)
+
+pub ruleset no_shift = (shift_none)

@@ -1,0 +1,226 @@
+//! What no clause says: small formulas typed by hand, large ones, and each call with ample memory.
+ghost use Rattle.std.specs.Prelude.{◌≤◌, IsTrue};
+ghost use Rattle.fol_theory.specs.Syntax.{terms};
+ghost use Rattle.fol_theory.specs.Measures.{reach, term_reach, terms_reach};
+ghost use Rattle.std.specs.Prelude.{map};
+ghost use Rattle.term_core.specs.Formula.{meaning};
+ghost use Rattle.term_core.specs.Term as term;
+
+use crate::{Formula, Name, Term};
+use base_core::NoMemory;
+use std::alloc::Global;
+use std::process::Abort;
+use std::test::Fail;
+
+/// Above every index, height and count of the small formulas here.
+const SMALL: u64 = 100_000;
+
+fn name(alloc: Global, text: &str) -> Result<Name, NoMemory> {
+    Name::from_slice(alloc, text.as_bytes())
+}
+
+/// The predicate `p` of a term.
+fn p(alloc: Global, t: Term) -> Result<Formula, NoMemory> {
+    let name = name(alloc, "p")?;
+    Ok(Formula::Pred(name, vec![in alloc; t]?))
+}
+
+/// `f` of two variables.
+fn f(alloc: Global, i: u64, j: u64) -> Result<Term, NoMemory> {
+    let name = name(alloc, "f")?;
+    Ok(Term::App(name, vec![in alloc; Term::Var(i), Term::Var(j)]?))
+}
+
+fn pair(alloc: Global, sign: u8, a: Formula, b: Formula) -> Result<Formula, NoMemory> {
+    let a = Box::new(alloc, a)?;
+    let b = Box::new(alloc, b)?;
+    Ok(match sign {
+        b'&' => Formula::And(a, b),
+        b'|' => Formula::Or(a, b),
+        _ => Formula::Imp(a, b),
+    })
+}
+
+fn bind(alloc: Global, sign: u8, a: Formula) -> Result<Formula, NoMemory> {
+    let a = Box::new(alloc, a)?;
+    let sort = name(alloc, "nat")?;
+    let printed = name(alloc, "x")?;
+    Ok(match sign {
+        b'A' => Formula::All(sort, printed, a),
+        _ => Formula::Ex(sort, printed, a),
+    })
+}
+
+/// A digit is `p` of that variable, and `a`, `b` and `c` are `p` of f(0, 3), f(1, 4) and f(2, 5).
+fn leaf(alloc: Global, sign: u8) -> Result<Formula, NoMemory> {
+    match sign {
+        b'0'..=b'9' => p(alloc, Term::Var(u64::from(sign - b'0'))),
+        b'a' => p(alloc, f(alloc, 0, 3)?),
+        b'b' => p(alloc, f(alloc, 1, 4)?),
+        b'c' => p(alloc, f(alloc, 2, 5)?),
+        b'F' => Ok(Formula::False),
+        _ => Ok(Formula::True),
+    }
+}
+
+/// The formula with one sign more behind those that were read.
+fn take_sign(alloc: Global, sign: u8, stack: &mut Vec<Formula>) -> Result<Formula, NoMemory> {
+    match sign {
+        b'&' | b'|' | b'>' => {
+            let b = stack.pop().unwrap_or(Formula::True);
+            let a = stack.pop().unwrap_or(Formula::True);
+            pair(alloc, sign, a, b)
+        }
+        b'A' | b'E' => bind(alloc, sign, stack.pop().unwrap_or(Formula::True)),
+        _ => leaf(alloc, sign),
+    }
+}
+
+/// A formula written with each sign behind its parts.
+fn read(alloc: Global, text: &[u8]) -> Result<Formula, NoMemory> {
+    let mut stack: Vec<Formula> = Vec::new(alloc);
+    for sign in text {
+        let a = take_sign(alloc, *sign, &mut stack)?;
+        stack.push(a)?;
+    }
+    Ok(stack.pop().unwrap_or(Formula::True))
+}
+
+#[cycle(within)]
+fn is_term_within(t: &Term, bound: u64) -> bool
+    ensures { IsTrue result → term_reach (term.meaning t.now) ≤ bound }
+{
+    match t {
+        Term::Var(i) => *i < bound,
+        Term::App(_, ts) => are_terms_within(ts, bound),
+    }
+}
+
+#[cycle(within)]
+fn are_terms_within(ts: &[Term], bound: u64) -> bool
+    ensures { IsTrue result → terms_reach (terms (map term.meaning ts.now)) ≤ bound }
+{
+    for t in ts {
+        if !is_term_within(t, bound) {
+            return false;
+        }
+    }
+    true
+}
+
+fn is_within(a: &Formula, bound: u64) -> bool
+    ensures { IsTrue result → reach (meaning a.now) ≤ bound }
+{
+    match a {
+        Formula::True | Formula::False => true,
+        Formula::Pred(_, ts) => are_terms_within(ts, bound),
+        Formula::Eq(_, t, u) => is_term_within(t, bound) && is_term_within(u, bound),
+        Formula::And(a, b) | Formula::Or(a, b) | Formula::Imp(a, b) => {
+            if !is_within(a, bound) {
+                return false;
+            }
+            is_within(b, bound)
+        }
+        Formula::All(_, _, a) | Formula::Ex(_, _, a) => is_within(a, bound),
+    }
+}
+
+/// A shift of a small formula.
+#[tactic(auto, using(crate::proofs::Bounds::bounds))]
+fn shift(rt: &impl Abort, a: &Formula, from: u64, by: u64) -> Result<Formula, NoMemory> {
+    assert!(rt; from < SMALL);
+    assert!(rt; by < SMALL);
+    assert!(rt; a.height() < SMALL);
+    assert!(rt; is_within(a, SMALL));
+    a.shift(from, by)
+}
+
+/// A substitution in a small formula.
+#[tactic(auto, using(crate::proofs::Bounds::bounds))]
+fn substitute(rt: &impl Abort, a: &Formula, index: u64, value: &Term) -> Result<Formula, NoMemory> {
+    assert!(rt; index < SMALL);
+    assert!(rt; a.height() < SMALL);
+    assert!(rt; is_within(a, SMALL));
+    assert!(rt; is_term_within(value, SMALL));
+    a.substitute(index, value)
+}
+
+/// Whether a formula that is shifted from 1 by 2 is another.
+fn is_shifted(rt: &(impl Abort + AllocGlobal), text: &[u8], want: &[u8]) -> Result<bool, NoMemory> {
+    let a = read(rt.alloc(), text)?;
+    let want = read(rt.alloc(), want)?;
+    Ok(shift(rt, &a, 1, 2)?.same(&want))
+}
+
+/// Whether a formula with f(0, 3) for the variable 1 is another.
+fn is_substituted(
+    rt: &(impl Abort + AllocGlobal),
+    text: &[u8],
+    want: &[u8],
+) -> Result<bool, NoMemory> {
+    let a = read(rt.alloc(), text)?;
+    let want = read(rt.alloc(), want)?;
+    let value = f(rt.alloc(), 0, 3)?;
+    Ok(substitute(rt, &a, 1, &value)?.same(&want))
+}
+
+/// The size and the height of a copy.
+fn measures(alloc: Global, text: &[u8]) -> Result<(u64, u64), NoMemory> {
+    let copy = read(alloc, text)?.copy()?;
+    Ok((copy.size(), copy.height()))
+}
+
+#[test]
+fn answers_the_table(rt: HostRuntime) -> Result<(), Fail> {
+    for (text, shifted, substituted, want) in [
+        (b"T".as_slice(), b"T".as_slice(), b"T".as_slice(), (1, 1)),
+        (b"0", b"0", b"0", (2, 2)),
+        (b"1", b"3", b"a", (2, 2)),
+        (b"2", b"4", b"1", (2, 2)),
+        (b"1A", b"1A", b"1A", (3, 3)),
+        (b"02&E", b"04&E", b"0b&E", (6, 4)),
+        (b"35F|>EA", b"57F|>EA", b"c4F|>EA", (9, 6)),
+    ] {
+        assert!(rt; is_shifted(&rt, text, shifted)?, "{text:?}");
+        assert!(rt; is_substituted(&rt, text, substituted)?, "{text:?}");
+        assert_eq!(rt; measures(rt.alloc(), text)?, want, "{text:?}");
+    }
+    Ok(())
+}
+
+/// `p` of a variable under 1,022 binders.
+fn high(alloc: Global) -> Result<Formula, NoMemory> {
+    let mut high = p(alloc, Term::Var(2_000))?;
+    for _ in 0..1_022 {
+        high = bind(alloc, b'A', high)?;
+    }
+    Ok(high)
+}
+
+/// `p` of 65,535 variables.
+fn wide(alloc: Global) -> Result<Formula, NoMemory> {
+    let mut arguments = Vec::new(alloc);
+    for i in 0..65_535 {
+        arguments.push(Term::Var(i))?;
+    }
+    let name = name(alloc, "p")?;
+    Ok(Formula::Pred(name, arguments))
+}
+
+#[test]
+fn serves_high_formulas(rt: HostRuntime) -> Result<(), Fail> {
+    let high = high(rt.alloc())?;
+    assert_eq!(rt; high.height(), 1_024);
+    assert!(rt; high.copy()?.same(&high));
+    assert!(rt; !shift(&rt, &high, 0, 1)?.same(&high));
+    Ok(())
+}
+
+#[test]
+fn serves_wide_formulas(rt: HostRuntime) -> Result<(), Fail> {
+    let wide = wide(rt.alloc())?;
+    assert_eq!(rt; wide.size(), 65_536);
+    assert!(rt; wide.copy()?.same(&wide));
+    assert!(rt; !shift(&rt, &wide, 0, 1)?.same(&wide));
+    Ok(())
+}

@@ -1,0 +1,5 @@
+pub mod Cuts
+pub mod Cutting
+pub mod Lexing
+pub mod Outsides
+pub mod Tables

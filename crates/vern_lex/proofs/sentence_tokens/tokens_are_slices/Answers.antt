@@ -1,0 +1,8 @@
+use Rattle.vern_lex.proofs.Lexing.{tokens_rise, tokens_each}
+use Rattle.vern_lex.proofs.sentence_tokens.tokens_are_slices.Goals as goal
+
+pub returns-clause-rise : goal.returns-clause-rise
+returns-clause-rise c = tokens_rise
+
+pub returns-clause-each : goal.returns-clause-each
+returns-clause-each c = tokens_each

@@ -1,0 +1,90 @@
+-- Where the sentences of a text stand.
+use Rattle.std.specs.Prelude.{◌≡◌, ℕ, zero, suc, ◌+◌, ◌<◌, ◌≤◌, ◌&&◌, ◌||◌, ◌==◌, List, [], ◌∷◌, length, drop, Bool, true, false, nat_le, Option, Some, None, Result, Ok, Err, if◌then◌else◌}
+use Rattle.std.specs.List.{prefix_len}
+use Rattle.vern_lex.specs.Comments.{is_blank, opens_comment, outside, first_place, begins}
+use Rattle.vern_lex.specs.declared.span.Span.{Span}
+use Rattle.vern_lex.specs.declared.sentences.SentenceCut.{SentenceCut}
+use Rattle.vern_lex.specs.declared.sentences.CutFault.{CutFault}
+use Rattle.vern_lex.specs.declared.sentences.CutFault.TheVariants.{Unclosed, TooLong}
+
+-- In this file a text is given by what stands outside of its comments.
+
+abbrev pub is_brace : ℕ → Bool
+is_brace b = b == 123 || b == 125
+
+abbrev pub is_bullet : ℕ → Bool
+is_bullet b = b == 45 || b == 43 || b == 42
+
+-- a blank follows, or the end
+abbrev pub ends_word : List ℕ → Bool
+ends_word [] = true
+ends_word (b ∷ rest) = is_blank b
+
+-- a text begins with a full stop that ends a sentence, or with a comment that doesn't end
+abbrev pub stops : List ℕ → Bool
+stops [] = false
+stops (b ∷ rest) = (b == 46 && ends_word rest) || opens_comment (b ∷ rest)
+
+-- the length of the sentence at the front of a text, or its fault; the text begins at the offset `at`, `place` bytes before the first
+-- full stop or comment that doesn't end
+abbrev pub stopped : ℕ → ℕ → List ℕ → Result ℕ CutFault
+stopped at place [] = Err (Unclosed at)
+stopped at place (b ∷ rest) = if b == 46 then Ok (place + 1) else Err (Unclosed (at + place))
+
+-- a brace alone, a bullet, or to the first full stop
+abbrev pub sentence_length : ℕ → ℕ → List ℕ → Result ℕ CutFault
+sentence_length at first text =
+    if is_brace first then Ok 1 else (if is_bullet first then Ok (prefix_len (λ b. b == first) text) else stopped at (first_place stops text) (drop (first_place stops text) text))
+
+-- the span of so many bytes from an offset, as far as a sentence may be that long
+abbrev pub within_limit : ℕ → Result ℕ CutFault → Result Span CutFault
+within_limit at (Ok n) = if nat_le n 65536 then Ok (record { from = at; to = at + n }) else Err (TooLong at)
+within_limit at (Err fault) = Err fault
+
+-- the sentence at the front of a text that begins at the offset `at`, with neither a blank nor a comment
+abbrev pub sentence_at : ℕ → List ℕ → Option (Result Span CutFault)
+sentence_at at [] = None
+sentence_at at (b ∷ rest) = Some (if opens_comment (b ∷ rest) then Err (Unclosed at) else within_limit at (sentence_length at b (b ∷ rest)))
+
+-- the first sentence of a text that begins at the offset `at`, or its fault, or none where it has only blanks and comments
+abbrev pub next_sentence : ℕ → List ℕ → Option (Result Span CutFault)
+next_sentence at text = sentence_at (at + first_place begins text) (drop (first_place begins text) text)
+
+-- no sentence more; the last one ends at the offset `at`
+abbrev pub ended : ℕ → Option CutFault → SentenceCut
+ended at fault = record { spans = []; rest = at; fault = fault }
+
+abbrev pub with_span : Span → SentenceCut → SentenceCut
+with_span span cut = record { spans = span ∷ cut.spans; rest = cut.rest; fault = cut.fault }
+
+-- the sentences of a text behind the offset `at`, where one ends or the text begins, one after the other to the first fault; at most so many
+abbrev pub sentences_behind : ℕ → List ℕ → ℕ → SentenceCut
+sentences_behind zero text at = ended at None
+sentences_behind (suc most) text at =
+    elim (next_sentence at (drop at text)) [
+      | None ↦ ended at None
+      | Some found ↦ elim found [ Ok span ↦ with_span span (sentences_behind most text span.to) | Err fault ↦ ended at (Some fault) ]
+    ]
+
+-- the sentences of a text: each has a byte at least
+abbrev pub sentences_of : List ℕ → SentenceCut
+sentences_of text = sentences_behind (length text) (outside text) 0
+
+-- ---- what spans of sentences are
+
+-- a span of a text: it has 1 to 65,536 bytes and begins with neither a blank nor a comment
+pub record IsSentenceSpan (text : List ℕ) (span : Span) : Type 0 where
+  pub begun : begins (drop span.from (outside text)) ≡ true
+  pub some : span.from < span.to
+  pub short : span.to ≤ span.from + 65536
+  pub within : span.to ≤ length text
+
+-- each span begins where the one before it ends, or behind, and the first at the offset `at`, or behind
+abbrev pub Rise : ℕ → List Span → Type 0
+Rise at [] = Unit {0}
+Rise at (span ∷ spans) = (at ≤ span.from) × Rise span.to spans
+
+-- where the last of the spans ends, or `at` where there is none
+abbrev pub last_end : ℕ → List Span → ℕ
+last_end at [] = at
+last_end at (span ∷ spans) = last_end span.to spans
