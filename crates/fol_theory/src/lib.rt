@@ -1,6 +1,6 @@
 //! Terms and formulas of first-order logic as definitions, and the laws that the crates above cite.
 //!
-//! There is no data here and no code that runs. specs/ has terms, lists of terms and formulas as data types, in
+//! No code runs here. specs/ has terms, lists of terms and formulas as data types, in
 //! de Bruijn's indices; simultaneous substitution, and as its instances a shift and the substitution for one
 //! variable; nodes, height and indices; equality but for the names that are printed; contexts. A law that is a
 //! public contract stands on a function of this crate with nothing in its body; the lemmas that prove them stand

@@ -4,8 +4,8 @@ ghost use Rattle.fol_theory.specs.Syntax.{Term, Formula};
 ghost use Rattle.fol_theory.specs.Substitution.{replace, shift, shift_term, substitute, substitute_term};
 ghost use Rattle.fol_theory.specs.Measures.{nodes, term_nodes, height, term_height, depth};
 
-/// A shift keeps nodes and height. A substitution makes neither less; it makes the nodes at most as many times as
-/// many as the value has, and the height at most greater by the value's. No binder comes or goes.
+/// A shift keeps nodes and height. A substitution makes neither less; it multiplies the nodes by at most those of
+/// the value, and adds at most the value's height. No binder comes or goes.
 pub fn replacing_is_measured()
     ensures shift_nodes { (from by : ℕ) (a : Formula) → nodes (shift from by a) ≡ nodes a }
     ensures shift_height { (from by : ℕ) (a : Formula) → height (shift from by a) ≡ height a }
