@@ -5,3 +5,4 @@ pub mod Sizes
 pub mod Reaches
 pub mod Names
 pub mod Entries
+pub mod Gaps

@@ -4,12 +4,15 @@ ghost use Rattle.fol_theory.specs.Syntax.{Term, Formula};
 ghost use Rattle.fol_theory.specs.Substitution.{shift, shift_term, substitute, substitute_term};
 ghost use Rattle.fol_theory.specs.Measures.{reach, term_reach, depth, height};
 
-/// One variable after another: how these pairs of a shift and a substitution are the other way round. A shift or a
-/// substitution inside the gap that a shift has made isn't among them. The same holds of terms, by the lemmas of
-/// the same names with `_term`.
+/// One variable after another: how each pair of a shift and a substitution is the other way round, or, inside the
+/// gap that a shift has made, is one shift. The same holds of terms, by the lemmas of the same names with `_term`.
 pub fn shifts_and_substitutions_pass()
     ensures shift_shift { (from by more : ℕ) (a : Formula) → shift from more (shift from by a) ≡ shift from (by + more) a }
     ensures shift_over { (k n from by : ℕ) (a : Formula) → k ≤ from → shift k n (shift from by a) ≡ shift (from + n) by (shift k n a) }
+    ensures shift_inside { (k n from by : ℕ) (a : Formula) → from ≤ k → k ≤ from + by
+        → shift k n (shift from by a) ≡ shift from (by + n) a }
+    ensures substitute_inside { (k from by : ℕ) (v : Term) (a : Formula) → from ≤ k → k ≤ from + by
+        → substitute k v (shift from (by + 1) a) ≡ shift from by a }
     ensures substitute_shift { (k : ℕ) (v : Term) (a : Formula) → substitute k v (shift k 1 a) ≡ a }
     ensures shift_substitute { (from by k : ℕ) (v : Term) (a : Formula) → from ≤ k → shift from by (substitute k v a) ≡ substitute (k + by) (shift_term from by v) (shift from by a) }
     ensures shift_substitute_above { (from by k : ℕ) (v : Term) (a : Formula) → k ≤ from → shift from by (substitute k v a) ≡ substitute k (shift_term from by v) (shift (from + 1) by a) }

@@ -1,3 +1,4 @@
+use Rattle.fol_theory.proofs.Gaps.{shift_inside, substitute_inside}
 use Rattle.fol_theory.proofs.Pairs as pairs
 use Rattle.fol_theory.proofs.indices.shifts_and_substitutions_pass.Goals as goal
 
@@ -18,3 +19,9 @@ returns-clause-shift_substitute_above c = pairs.shift_substitute_above
 
 pub returns-clause-substitute_substitute : goal.returns-clause-substitute_substitute
 returns-clause-substitute_substitute c = pairs.substitute_substitute
+
+pub returns-clause-shift_inside : goal.returns-clause-shift_inside
+returns-clause-shift_inside c = shift_inside
+
+pub returns-clause-substitute_inside : goal.returns-clause-substitute_inside
+returns-clause-substitute_inside c = substitute_inside
