@@ -7,7 +7,7 @@ use Rattle.std.specs.List.{All}
 use Rattle.std.proofs.lemmas.List.Elements.{All-nil, All-cons}
 use Rattle.std.proofs.lemmas.List.Sums.{prefix_len_passes, prefix_len-le-length}
 use Rattle.vern_lex.specs.Comments.{outside, first_place, begins, opens_comment}
-use Rattle.vern_lex.specs.Sentences.{IsSentenceSpan, Rise, last_end, is_brace, is_bullet, stops, stopped, sentence_length, within_limit, sentence_at, next_sentence, ended, with_span, sentences_behind, sentences_of}
+use Rattle.vern_lex.specs.Sentences.{IsSentenceSpan, Rise, last_end, is_brace, is_bullet, stops, length_to_full_stop, sentence_length, within_limit, sentence_at, next_sentence, cut_up_to, with_span, sentences_behind, sentences_of}
 use Rattle.vern_lex.specs.declared.span.Span.{Span}
 use Rattle.vern_lex.specs.declared.sentences.SentenceCut.{SentenceCut}
 use Rattle.vern_lex.specs.declared.sentences.CutFault.{CutFault}
@@ -20,8 +20,8 @@ pub record IsLength (xs : List ℕ) (n : ℕ) : Type 0 where
   pub within : n ≤ length xs
   pub ends : get_or xs (n - 1) 0 ≡ 256 → ⊥
 
-stopped_length : (at : ℕ) (xs : List ℕ) (place n : ℕ) → place ≤ length xs → stopped at place (drop place xs) ≡ Ok n → IsLength xs n
-stopped_length at xs place n h e = by (drop place xs) refl e
+full_stop_length : (at : ℕ) (xs : List ℕ) (place n : ℕ) → place ≤ length xs → length_to_full_stop at place (drop place xs) ≡ Ok n → IsLength xs n
+full_stop_length at xs place n h e = by (drop place xs) refl e
   where
     at_stop : (y : ℕ) (ys : List ℕ) → drop place xs ≡ y ∷ ys → (t : Bool) → (y == 46) ≡ t → (if t then Ok (place + 1) else Err (Unclosed (at + place))) ≡ Ok n → IsLength xs n
     at_stop y ys d true t e =
@@ -32,7 +32,7 @@ stopped_length at xs place n h e = by (drop place xs) refl e
         record { some = omega (arith, count); within = omega (arith, count, rest); ends = λ x. false≢true (ap (λ b. b == 46) (sym x ∙ there) ∙ t) }
     at_stop y ys d false t e = absurd (cc)
 
-    by : (zs : List ℕ) → drop place xs ≡ zs → stopped at place zs ≡ Ok n → IsLength xs n
+    by : (zs : List ℕ) → drop place xs ≡ zs → length_to_full_stop at place zs ≡ Ok n → IsLength xs n
     by [] d e = absurd (cc)
     by (y ∷ ys) d e = at_stop y ys d (y == 46) refl e
 
@@ -48,20 +48,20 @@ bullet_length b n rest bullet e =
       ends = λ x. false≢true (ap is_bullet (sym x ∙ last) ∙ bullet);
     }
 
-is_length : (at b n : ℕ) (rest : List ℕ) → sentence_length at b (b ∷ rest) ≡ Ok n → IsLength (b ∷ rest) n
+pub is_length : (at b n : ℕ) (rest : List ℕ) → sentence_length at (b ∷ rest) ≡ Ok n → IsLength (b ∷ rest) n
 is_length at b n rest e = by (is_brace b) refl (is_bullet b) refl e
   where
     stop : ℕ
     stop = first_place stops (b ∷ rest)
 
     by : (s : Bool) → is_brace b ≡ s → (t : Bool) → is_bullet b ≡ t
-        → (if s then Ok 1 else (if t then Ok (prefix_len (λ c. c == b) (b ∷ rest)) else stopped at (first_place stops (b ∷ rest)) (drop (first_place stops (b ∷ rest)) (b ∷ rest)))) ≡ Ok n
+        → (if s then Ok 1 else (if t then Ok (prefix_len (λ c. c == b) (b ∷ rest)) else length_to_full_stop at (first_place stops (b ∷ rest)) (drop (first_place stops (b ∷ rest)) (b ∷ rest)))) ≡ Ok n
         → IsLength (b ∷ rest) n
     by true s t u e =
         let one : 1 ≡ n = cc in
         subst (IsLength (b ∷ rest)) one (record { some = omega arith; within = omega arith; ends = λ x. false≢true (ap is_brace (sym x) ∙ s) })
     by false s true u e = let run : prefix_len (λ c. c == b) (b ∷ rest) ≡ n = cc in bullet_length b n rest u run
-    by false s false u e = stopped_length at (b ∷ rest) (first_place stops (b ∷ rest)) n (first_place-within stops (b ∷ rest)) e
+    by false s false u e = full_stop_length at (b ∷ rest) (first_place stops (b ∷ rest)) n (first_place-within stops (b ∷ rest)) e
 
 -- a span of a sentence of a text that begins at an offset
 pub record IsSpan (at : ℕ) (xs : List ℕ) (s : Span) : Type 0 where
@@ -92,13 +92,13 @@ at_span : (at : ℕ) (xs : List ℕ) (s : Span) → sentence_at at xs ≡ Some (
 at_span at [] s e = absurd (cc)
 at_span at (b ∷ rest) s e = by (opens_comment (b ∷ rest)) e
   where
-    fits : (r : Result ℕ CutFault) → sentence_length at b (b ∷ rest) ≡ r → within_limit at r ≡ Ok s → IsSpan at (b ∷ rest) s
+    fits : (r : Result ℕ CutFault) → sentence_length at (b ∷ rest) ≡ r → within_limit at r ≡ Ok s → IsSpan at (b ∷ rest) s
     fits (Ok n) l e = limit_span at n (b ∷ rest) s (is_length at b n rest l) e
     fits (Err f) l e = absurd (cc)
 
-    by : (t : Bool) → Some (if t then Err (Unclosed at) else within_limit at (sentence_length at b (b ∷ rest))) ≡ Some (Ok s) → IsSpan at (b ∷ rest) s
+    by : (t : Bool) → Some (if t then Err (Unclosed at) else within_limit at (sentence_length at (b ∷ rest))) ≡ Some (Ok s) → IsSpan at (b ∷ rest) s
     by true e = absurd (cc)
-    by false e = let found : within_limit at (sentence_length at b (b ∷ rest)) ≡ Ok s = cc in fits (sentence_length at b (b ∷ rest)) refl found
+    by false e = let found : within_limit at (sentence_length at (b ∷ rest)) ≡ Ok s = cc in fits (sentence_length at (b ∷ rest)) refl found
 
 pub next_span : (at : ℕ) (xs : List ℕ) (s : Span) → next_sentence at xs ≡ Some (Ok s) → IsSpan at xs s
 next_span at xs s e = by (first_place begins xs) (first_place-within begins xs) (at_span (at + first_place begins xs) (drop (first_place begins xs) xs) s e)
@@ -122,8 +122,8 @@ nothing_next at xs h = ap (next_sentence at) (drop_all at xs h)
 abbrev pub step : ℕ → List ℕ → ℕ → Option (Result Span CutFault) → SentenceCut
 step most xs at found =
     elim found [
-      | None ↦ ended at None
-      | Some r ↦ elim r [ Ok span ↦ with_span span (sentences_behind most xs span.to) | Err fault ↦ ended at (Some fault) ]
+      | None ↦ cut_up_to at None
+      | Some r ↦ elim r [ Ok span ↦ with_span span (sentences_behind most xs span.to) | Err fault ↦ cut_up_to at (Some fault) ]
     ]
 
 enough : (m n : ℕ) (xs : List ℕ) (at : ℕ) → length xs - at ≤ m → length xs - at ≤ n → sentences_behind m xs at ≡ sentences_behind n xs at
@@ -160,21 +160,21 @@ behind_is xs at h =
     let one : length xs - at ≡ suc (length xs - at - 1) = omega (arith, h) in
     ap (λ n. sentences_behind n xs at) one
 
-pub cut_none : (xs : List ℕ) (at : ℕ) → next_sentence at (drop at xs) ≡ None → cut_behind xs at ≡ ended at None
+pub cut_none : (xs : List ℕ) (at : ℕ) → next_sentence at (drop at xs) ≡ None → cut_behind xs at ≡ cut_up_to at None
 cut_none xs at e = by (cases_lt at (length xs))
   where
-    by : (at < length xs) ⊎ (length xs ≤ at) → cut_behind xs at ≡ ended at None
+    by : (at < length xs) ⊎ (length xs ≤ at) → cut_behind xs at ≡ cut_up_to at None
     by (inl h) = behind_is xs at h ∙ ap (step (length xs - at - 1) xs at) e
     by (inr h) = let zero_left : length xs - at ≡ 0 = omega (arith, h) in ap (λ n. sentences_behind n xs at) zero_left
 
-within_since : (xs : List ℕ) (at : ℕ) (r : Result Span CutFault) → next_sentence at (drop at xs) ≡ Some r → at < length xs
+pub within_since : (xs : List ℕ) (at : ℕ) (r : Result Span CutFault) → next_sentence at (drop at xs) ≡ Some r → at < length xs
 within_since xs at r e = by (cases_lt at (length xs))
   where
     by : (at < length xs) ⊎ (length xs ≤ at) → at < length xs
     by (inl h) = h
     by (inr h) = let none = nothing_next at xs h in absurd (cc)
 
-pub cut_fault : (xs : List ℕ) (at : ℕ) (f : CutFault) → next_sentence at (drop at xs) ≡ Some (Err f) → cut_behind xs at ≡ ended at (Some f)
+pub cut_fault : (xs : List ℕ) (at : ℕ) (f : CutFault) → next_sentence at (drop at xs) ≡ Some (Err f) → cut_behind xs at ≡ cut_up_to at (Some f)
 cut_fault xs at f e = behind_is xs at (within_since xs at (Err f) e) ∙ ap (step (length xs - at - 1) xs at) e
 
 pub cut_more : (xs : List ℕ) (at : ℕ) (spans : List Span) (s : Span) → next_sentence at (drop at xs) ≡ Some (Ok s)
@@ -199,28 +199,31 @@ next_outside : (text rest : List ℕ) (spans : List Span) (at : ℕ) (o : Option
     → next_sentence at (drop at (outside text)) ≡ o
 next_outside text rest spans at o i r e = ap (next_sentence at) (i.rest ∙ ap outside (sym r)) ∙ e
 
+-- behind a span no comment is open
+pub span_rest : (text : List ℕ) (at : ℕ) (s : Span) → at ≤ length text → next_sentence at (drop at (outside text)) ≡ Some (Ok s) → drop s.to (outside text) ≡ outside (drop s.to text)
+span_rest text at s h e =
+    let span = next_span at (drop at (outside text)) s e in
+    let ends : get_or (outside text) (s.to - 1) 0 ≡ 256 → ⊥ =
+    λ x. span.ends (get_or-drop at (outside text) (s.to - at - 1) 0 ∙ ap (λ k. get_or (outside text) k 0) (index at s.to (omega (arith, span.behind, span.some))) ∙ x) in
+    let below : s.to - 1 < length text = omega (arith, span.within, span.some, length-drop at (outside text), length-outside text, h) in
+    let behind : s.to - 1 + 1 ≡ s.to = omega (arith, span.some) in
+    ap (λ k. drop k (outside text)) (sym behind) ∙ plain_next text (s.to - 1) below (plain_place 0 text (s.to - 1) below ends) ∙ ap (λ k. outside (drop k text)) behind
+  where
+    index : (at to : ℕ) → at < to → at + (to - at - 1) ≡ to - 1
+    index at to h = omega (arith, h)
+
 pub cut-grown : (text rest : List ℕ) (spans : List Span) (at : ℕ) (s : Span) → IsCut text spans at → rest ≡ drop at text → next_sentence at (outside rest) ≡ Some (Ok s)
     → IsCut text (spans ++ s ∷ []) s.to × (at < s.to)
 cut-grown text rest spans at s i r e =
     let next = next_outside text rest spans at (Some (Ok s)) i r e in
-    let span = next_span at (drop at (outside text)) s next in
-    let last : ℕ = s.to - 1 in
-    let ends : get_or (outside text) (s.to - 1) 0 ≡ 256 → ⊥ =
-    λ x. span.ends (get_or-drop at (outside text) (s.to - at - 1) 0 ∙ ap (λ k. get_or (outside text) k 0) (index at s.to (omega (arith, span.behind, span.some))) ∙ x) in
-    let within : s.to ≤ length text = omega (arith, span.within, length-drop at (outside text), length-outside text, i.within) in
-    let below : s.to - 1 < length text = omega (arith, within, span.some) in
-    let plain = plain_place 0 text (s.to - 1) below ends in
-    let behind : s.to - 1 + 1 ≡ s.to = omega (arith, span.some) in (
+    let span = next_span at (drop at (outside text)) s next in (
       record {
-        within = within;
-        rest = ap (λ k. drop k (outside text)) (sym behind) ∙ plain_next text (s.to - 1) below plain ∙ ap (λ k. outside (drop k text)) behind;
+        within = omega (arith, span.within, length-drop at (outside text), length-outside text, i.within);
+        rest = span_rest text at s i.within next;
         cut = sym (cut_more (outside text) at spans s next) ∙ i.cut;
       },
       omega (arith, span.behind, span.some),
     )
-  where
-    index : (at to : ℕ) → at < to → at + (to - at - 1) ≡ to - 1
-    index at to h = omega (arith, h)
 
 pub cut-done : (text rest : List ℕ) (spans : List Span) (at : ℕ) → IsCut text spans at → rest ≡ drop at text → next_sentence at (outside rest) ≡ None
     → record { spans = spans; rest = at; fault = None } ≡ sentences_of text
@@ -236,7 +239,7 @@ cut-faulted text rest spans at f i r e =
 
 -- ---- what the spans are
 
-at_from : (at : ℕ) (xs : List ℕ) (s : Span) → sentence_at at xs ≡ Some (Ok s) → (s.from ≡ at) × (0 < length xs)
+pub at_from : (at : ℕ) (xs : List ℕ) (s : Span) → sentence_at at xs ≡ Some (Ok s) → (s.from ≡ at) × (0 < length xs)
 at_from at [] s e = absurd (cc)
 at_from at (b ∷ rest) s e = by (opens_comment (b ∷ rest)) e
   where
@@ -248,11 +251,11 @@ at_from at (b ∷ rest) s e = by (opens_comment (b ∷ rest)) e
     fits (Ok n) e = limit n (nat_le n 65536) e
     fits (Err f) e = absurd (cc)
 
-    by : (t : Bool) → Some (if t then Err (Unclosed at) else within_limit at (sentence_length at b (b ∷ rest))) ≡ Some (Ok s) → (s.from ≡ at) × (0 < length (b ∷ rest))
+    by : (t : Bool) → Some (if t then Err (Unclosed at) else within_limit at (sentence_length at (b ∷ rest))) ≡ Some (Ok s) → (s.from ≡ at) × (0 < length (b ∷ rest))
     by true e = absurd (cc)
-    by false e = let found : within_limit at (sentence_length at b (b ∷ rest)) ≡ Ok s = cc in (fits (sentence_length at b (b ∷ rest)) found, omega arith)
+    by false e = let found : within_limit at (sentence_length at (b ∷ rest)) ≡ Ok s = cc in (fits (sentence_length at (b ∷ rest)) found, omega arith)
 
-span_begun : (at : ℕ) (xs : List ℕ) (s : Span) → next_sentence at (drop at xs) ≡ Some (Ok s) → begins (drop s.from xs) ≡ true
+pub span_begun : (at : ℕ) (xs : List ℕ) (s : Span) → next_sentence at (drop at xs) ≡ Some (Ok s) → begins (drop s.from xs) ≡ true
 span_begun at xs s e =
     let ys : List ℕ = drop at xs in
     let found = at_from (at + first_place begins (drop at xs)) (drop (first_place begins (drop at xs)) (drop at xs)) s e in

@@ -1,16 +1,19 @@
 -- The tokens of a sentence, one after the other.
-use Rattle.std.proofs.Common.{◌≡◌, ℕ, zero, suc, ◌+◌, ◌-◌, ◌<◌, ◌≤◌, ◌⊎◌, inl, inr, ◌&&◌, ◌==◌, List, [], ◌∷◌, ◌++◌, length, drop, get_or, Bool, true, false, Option, Some, None, if◌then◌else◌, length-drop, append_assoc, append-nil, refl, sym, ap, ◌∙◌, subst, arith}
-use Rattle.std.specs.List.{All, prefix_len, take_while}
-use Rattle.std.proofs.lemmas.Bool.{cases_lt, and_parts}
-use Rattle.std.proofs.lemmas.List.{drop_all, length-take-le}
+use Rattle.std.proofs.Common.{◌≡◌, ℕ, zero, suc, ◌+◌, ◌-◌, ◌<◌, ◌≤◌, ◌⊎◌, inl, inr, ◌&&◌, ◌||◌, ◌==◌, List, [], ◌∷◌, ◌++◌, length, drop, get_or, Bool, true, false, Option, Some, None, if◌then◌else◌, length-drop, append_assoc, append-nil, refl, sym, ap, ◌∙◌, subst, arith}
+use Rattle.std.specs.List.{All, list_all, prefix_len, take_while}
+use Rattle.std.proofs.lemmas.Bool.{cases_lt, and_parts, eqb-true}
+use Rattle.std.proofs.lemmas.List.{drop_all, drop-drop, length-take-le}
 use Rattle.std.proofs.lemmas.List.Sums.{prefix_len-le-length}
-use Rattle.std.proofs.lemmas.List.Elements.{All-nil, All-cons}
-use Rattle.vern_lex.specs.Comments.{outside, first_place, begins}
-use Rattle.vern_lex.specs.Tokens.{IsTokenOf, TokensRise, begins_name, continues_name, first_name, word_kind, pair_kind, single_kind, token_of, sign_of, sign_at, token_at, next_token, tokens_behind, lone_kind, tokens_of}
+use Rattle.std.proofs.lemmas.List.Elements.{All-nil, All-cons, All-drop}
+use Rattle.vern_lex.specs.Comments.{IsGap, outside, first_place, begins, is_gap}
+use Rattle.vern_lex.specs.Comments.IsGap.{nothing}
+use Rattle.vern_lex.specs.Tokens.{HasOnlyGaps, IsTokenOf, TokensRise, begins_name, continues_name, first_name, word_kind, pair_kind, single_kind, token_of, sign_of, sign_at, token_at, next_token, tokens_behind, lone_kind, tokens_of}
 use Rattle.vern_lex.specs.declared.token.Token.{Token}
 use Rattle.vern_lex.specs.declared.token.TokenKind.{TokenKind}
-use Rattle.vern_lex.specs.declared.token.TokenKind.TheVariants.{Iff, FullStop}
-use Rattle.vern_lex.proofs.Outsides.{length-outside, first_place-within}
+use Rattle.vern_lex.specs.declared.token.TokenKind.TheVariants.{Iff, FullStop, Bullet, LeftBrace, RightBrace}
+use Rattle.vern_lex.proofs.Outsides.{length-outside, first_place-within, first_place-found, found_plain}
+use Rattle.vern_lex.proofs.Cuts.{begins-covered}
+use Rattle.vern_lex.proofs.Gaps.{gap-whole, gap-before, begun-byte}
 
 -- a token within a text that begins at an offset
 pub record IsWithin (at : ℕ) (xs : List ℕ) (t : Token) : Type 0 where
@@ -173,6 +176,44 @@ rise (suc most) xs at = by (next_token at (drop at xs)) refl (rise most xs)
     by None e more = tt
     by (Some t) e more = ((next_within at (drop at xs) t e).behind, more t.span.to)
 
+abbrev IsFrom : ℕ → Token → Type 0
+IsFrom at t = t.span.from ≡ at
+
+sign_from : (at a : ℕ) (rest : List ℕ) → IsFrom at (sign_at at a rest)
+sign_from at a rest = stop (a == 46 && length rest == 0)
+  where
+    pair : (o : Option TokenKind) → IsFrom at (elim o [ Some kind ↦ token_of at kind 2 | None ↦ token_of at (single_kind a) 1 ])
+    pair (Some k) = refl
+    pair None = refl
+
+    three : (t : Bool) → IsFrom at (if t then token_of at Iff 3 else elim (pair_kind a (get_or rest 0 0)) [ Some kind ↦ token_of at kind 2 | None ↦ token_of at (single_kind a) 1 ])
+    three true = refl
+    three false = pair (pair_kind a (get_or rest 0 0))
+
+    stop : (t : Bool) → IsFrom at (if t then token_of at FullStop 1 else sign_of at a (get_or rest 0 0) (get_or rest 1 0))
+    stop true = refl
+    stop false = three (get_or rest 1 0 == 62 && get_or rest 0 0 == 45 && a == 60)
+
+token_from : (at : ℕ) (xs : List ℕ) (t : Token) → token_at at xs ≡ Some t → (t.span.from ≡ at) × (0 < length xs)
+token_from at [] t e = absurd (cc)
+token_from at (b ∷ rest) t e = (by (begins_name b) e, omega arith)
+  where
+    by : (s : Bool) → Some (if s then token_of at (word_kind (first_name (b ∷ rest))) (length (first_name (b ∷ rest))) else sign_at at b rest) ≡ Some t → t.span.from ≡ at
+    by true e = let is : token_of at (word_kind (first_name (b ∷ rest))) (length (first_name (b ∷ rest))) ≡ t = cc in sym (ap (λ x. x.span.from) is)
+    by false e = let is : sign_at at b rest ≡ t = cc in sym (ap (λ x. x.span.from) is) ∙ sign_from at b rest
+
+token_none : (at : ℕ) (xs : List ℕ) → token_at at xs ≡ None → xs ≡ []
+token_none at [] e = refl
+token_none at (b ∷ rest) e = absurd (cc)
+
+token_begun : (at : ℕ) (xs : List ℕ) (t : Token) → next_token at (drop at xs) ≡ Some t → begins (outside (drop t.span.from xs)) ≡ true
+token_begun at xs t e =
+    let found = token_from (at + first_place begins (outside (drop at xs))) (drop (first_place begins (outside (drop at xs))) (drop at xs)) t e in
+    let below : first_place begins (outside (drop at xs)) < length (outside (drop at xs)) =
+    omega (arith, found.1, length-drop (first_place begins (outside (drop at xs))) (drop at xs), length-outside (drop at xs)) in
+    ap (λ k. begins (outside (drop k xs))) found.0 ∙ ap (λ l. begins (outside l)) (sym (drop-drop (first_place begins (outside (drop at xs))) at xs))
+    ∙ ap begins (sym (found_plain begins begins-covered (drop at xs)).rest) ∙ first_place-found begins (outside (drop at xs)) below
+
 each : (most : ℕ) (xs : List ℕ) (at : ℕ) → All (IsTokenOf xs) (tokens_behind most xs at)
 each zero xs at = All-nil (IsTokenOf xs)
 each (suc most) xs at = by (next_token at (drop at xs)) refl (each most xs)
@@ -182,11 +223,48 @@ each (suc most) xs at = by (next_token at (drop at xs)) refl (each most xs)
     by (Some t) e more =
         let i = next_within at (drop at xs) t e in
         let below = within_since xs at t e in
-        All-cons (IsTokenOf xs) t (tokens_behind most xs t.span.to) (record { some = i.some; within = omega (arith, i.within, below, length-drop at xs) }) (more t.span.to)
+        All-cons (IsTokenOf xs) t (tokens_behind most xs t.span.to) (record { begun = token_begun at xs t e; some = i.some; within = omega (arith, i.within, below, length-drop at xs) }) (more t.span.to)
 
 lone_some : (xs : List ℕ) (k : TokenKind) → lone_kind xs ≡ Some k → 0 < length xs
 lone_some [] k e = absurd (cc)
 lone_some (x ∷ xs) k e = omega arith
+
+lone_begun : (xs : List ℕ) (k : TokenKind) → lone_kind xs ≡ Some k → begins (outside xs) ≡ true
+lone_begun [] k e = absurd (cc)
+lone_begun (b ∷ rest) k e = by (b == 45) refl (b == 43) refl (b == 42) refl (b == 123) refl (b == 125) refl
+  where
+    is : (c : ℕ) → is_gap c ≡ false → (c == 40) ≡ false → (b == c) ≡ true → begins (outside (b ∷ rest)) ≡ true
+    is c gap other e =
+        let same : b ≡ c = eqb-true b c e in
+        begun-byte b rest (ap is_gap same ∙ gap) (ap (λ x. x == 40) same ∙ other)
+
+    none : (b == 45 || b == 43 || b == 42) ≡ false → (b == 123) ≡ false → (b == 125) ≡ false → lone_kind (b ∷ rest) ≡ None
+    none u v w =
+        ap (λ t. if t && list_all (λ c. c == b) rest then Some Bullet else (if b == 123 && length rest == 0 then Some LeftBrace else (if b == 125 && length rest == 0 then Some RightBrace else None))) u
+        ∙ ap (λ t. if t && length rest == 0 then Some LeftBrace else (if b == 125 && length rest == 0 then Some RightBrace else None)) v ∙ ap (λ t. if t && length rest == 0 then Some RightBrace else None) w
+
+    by : (s : Bool) → (b == 45) ≡ s → (t : Bool) → (b == 43) ≡ t → (u : Bool) → (b == 42) ≡ u → (v : Bool) → (b == 123) ≡ v → (w : Bool) → (b == 125) ≡ w → begins (outside (b ∷ rest)) ≡ true
+    by true s t p u q v x w y = is 45 refl refl s
+    by false s true p u q v x w y = is 43 refl refl p
+    by false s false p true q v x w y = is 42 refl refl q
+    by false s false p false q true x w y = is 123 refl refl x
+    by false s false p false q false x true y = is 125 refl refl y
+    by false s false p false q false x false y =
+        let no_bullet : (b == 45 || b == 43 || b == 42) ≡ false = ap (λ t. t || b == 43 || b == 42) s ∙ ap (λ t. t || b == 42) p ∙ q in
+        let nothing = none no_bullet x y in
+        absurd (cc)
+
+only_gaps : (most : ℕ) (xs : List ℕ) (at : ℕ) → length xs - at ≤ most → All (λ b. b < 256) xs → HasOnlyGaps xs at (tokens_behind most xs at)
+only_gaps zero xs at h bytes = let past : length xs ≤ at = omega (arith, h) in subst IsGap (sym (drop_all at xs past)) nothing
+only_gaps (suc most) xs at h bytes = by (next_token at (drop at xs)) refl (only_gaps most xs)
+  where
+    by : (o : Option Token) → next_token at (drop at xs) ≡ o → ((p : ℕ) → length xs - p ≤ most → All (λ b. b < 256) xs → HasOnlyGaps xs p (tokens_behind most xs p)) → HasOnlyGaps xs at (step most xs o)
+    by None e more =
+        gap-whole (drop at xs) (All-drop (λ b. b < 256) at xs bytes) (token_none (at + first_place begins (outside (drop at xs))) (drop (first_place begins (outside (drop at xs))) (drop at xs)) e)
+    by (Some t) e more =
+        let i = next_within at (drop at xs) t e in
+        let found = token_from (at + first_place begins (outside (drop at xs))) (drop (first_place begins (outside (drop at xs))) (drop at xs)) t e in
+        (gap-before xs at t.span.from bytes found.0, more t.span.to (omega (arith, i.behind, i.some, i.within, h, length-drop at xs)) bytes)
 
 pub tokens_rise : (sentence : List ℕ) → TokensRise 0 (tokens_of sentence)
 tokens_rise sentence = by (lone_kind sentence)
@@ -202,4 +280,11 @@ tokens_each sentence = by (lone_kind sentence) refl
     by None e = each (length sentence) sentence 0
     by (Some k) e =
         let i = lone_some sentence k e in
-        All-cons (IsTokenOf sentence) (token_of 0 k (length sentence)) [] (record { some = omega (arith, i); within = omega arith }) (All-nil (IsTokenOf sentence))
+        All-cons (IsTokenOf sentence) (token_of 0 k (length sentence)) [] (record { begun = lone_begun sentence k e; some = omega (arith, i); within = omega arith }) (All-nil (IsTokenOf sentence))
+
+pub tokens_only_gaps : (sentence : List ℕ) → All (λ b. b < 256) sentence → HasOnlyGaps sentence 0 (tokens_of sentence)
+tokens_only_gaps sentence bytes = by (lone_kind sentence)
+  where
+    by : (o : Option TokenKind) → HasOnlyGaps sentence 0 (elim o [ Some kind ↦ token_of 0 kind (length sentence) ∷ [] | None ↦ tokens_behind (length sentence) sentence 0 ])
+    by None = only_gaps (length sentence) sentence 0 (omega arith) bytes
+    by (Some k) = (nothing, subst IsGap (sym (drop_all (0 + length sentence) sentence (omega arith))) nothing)

@@ -1,5 +1,9 @@
+pub mod Alone
+pub mod Between
 pub mod Cuts
 pub mod Cutting
+pub mod Gaps
 pub mod Lexing
 pub mod Outsides
+pub mod Parts
 pub mod Tables

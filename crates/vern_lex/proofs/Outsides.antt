@@ -203,7 +203,7 @@ plain_byte text i h p =
 
 -- ---- runs of a byte
 
-comment-first : (b : ℕ) (rest : List ℕ) → 0 < comment_length (b ∷ rest) → b ≡ 40
+pub comment-first : (b : ℕ) (rest : List ℕ) → 0 < comment_length (b ∷ rest) → b ≡ 40
 comment-first b [] h = absurd (omega (arith, h))
 comment-first b (c ∷ rest) h = by (b == 40 && c == 42) refl h
   where

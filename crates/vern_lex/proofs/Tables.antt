@@ -2,7 +2,8 @@
 use Rattle.std.proofs.Common.{◌≡◌, ℕ, zero, suc, ◌+◌, ◌-◌, ◌<◌, ◌≤◌, ◌⊎◌, inl, inr, ◌&&◌, ◌==◌, List, [], ◌∷◌, ◌++◌, length, drop, get_or, Bool, true, false, Option, Some, None, MatchOption, Bor, if◌then◌else◌, length-drop, refl, sym, ap, ◌∙◌, subst, arith}
 use Rattle.std.proofs.lemmas.Bool.{cases_lt}
 use Rattle.std.proofs.lemmas.List.{drop-drop, drop_all, get_or_append_left, get_or_push, length_push}
-use Rattle.vern_lex.specs.Comments.{opens_comment, closes_comment, behind, comment_length, closers, IsTable}
+use Rattle.vern_lex.specs.Closers.{closers, IsTable}
+use Rattle.vern_lex.specs.Comments.{opens_comment, closes_comment, behind, comment_length}
 
 -- what closes less than is open ends none of the outermost
 behind_none : (deep : ℕ) (text : List ℕ) → closers text < deep → behind deep text ≡ None

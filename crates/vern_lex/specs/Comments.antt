@@ -1,5 +1,5 @@
 -- Blanks and comments of a text, and what stands outside of its comments.
-use Rattle.std.specs.Prelude.{◌≡◌, ℕ, zero, suc, ◌+◌, ◌-◌, ◌<◌, ◌≤◌, ◌&&◌, ◌||◌, ◌==◌, List, [], ◌∷◌, length, drop, slice_index, Bool, true, false, not, Option, Some, None, if◌then◌else◌}
+use Rattle.std.specs.Prelude.{◌≡◌, ℕ, zero, suc, ◌+◌, ◌-◌, ◌<◌, ◌&&◌, ◌||◌, ◌==◌, List, [], ◌∷◌, ◌++◌, length, take, drop, Bool, true, false, not, Option, Some, None, if◌then◌else◌}
 
 -- tab, line feed, form feed, carriage return and space
 abbrev pub is_blank : ℕ → Bool
@@ -35,7 +35,7 @@ comment_length [] = 0
 comment_length (a ∷ []) = 0
 comment_length (a ∷ b ∷ rest) = if a == 40 && b == 42 then elim (behind 1 rest) [ None ↦ 0 | Some after ↦ length (a ∷ b ∷ rest) - length after ] else 0
 
--- what stands in the place of a byte of a comment
+-- what stands in the place of a byte of a comment: 256, which is no byte
 abbrev pub no_byte : ℕ
 no_byte = 256
 
@@ -63,17 +63,18 @@ abbrev pub begins : List ℕ → Bool
 begins [] = false
 begins (b ∷ rest) = not (is_gap b)
 
--- how many comments that are open before a text it closes
-abbrev pub closers : List ℕ → ℕ
-closers [] = 0
-closers (a ∷ []) = 0
-closers (a ∷ b ∷ rest) =
-    elim (a == 40 && b == 42) [
-      | true ↦ closers rest - 1
-      | false ↦ elim (a == 42 && b == 41) [ true ↦ closers rest + 1 | false ↦ closers (b ∷ rest) ]
-    ]
+-- ---- parts of a text
 
--- the closers of each end of a text, the shortest end first
-pub record IsTable (text table : List ℕ) : Type 0 where
-  pub long : length text < length table
-  pub each : (k : ℕ) → k ≤ length text → slice_index table k ≡ closers (drop (length text - k) text)
+-- the bytes of a text from one offset on and before another
+abbrev pub part : ℕ → ℕ → List ℕ → List ℕ
+part from to text = take (to - from) (drop from text)
+
+-- one whole comment and nothing behind it
+abbrev pub IsComment : List ℕ → Type 0
+IsComment text = (0 < comment_length text) × (comment_length text ≡ length text)
+
+-- blanks and whole comments alone, as many as there are
+pub data IsGap : List ℕ → Type 0 where
+  nothing : IsGap []
+  blank : (b : ℕ) (rest : List ℕ) → is_blank b ≡ true → IsGap rest → IsGap (b ∷ rest)
+  comment : (first rest : List ℕ) → IsComment first → IsGap rest → IsGap (first ++ rest)

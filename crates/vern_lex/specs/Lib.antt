@@ -1,3 +1,4 @@
+pub mod Closers
 pub mod Comments
 pub mod Sentences
 pub mod Tokens

@@ -1,7 +1,7 @@
 -- Where the sentences of a text stand.
-use Rattle.std.specs.Prelude.{◌≡◌, ℕ, zero, suc, ◌+◌, ◌<◌, ◌≤◌, ◌&&◌, ◌||◌, ◌==◌, List, [], ◌∷◌, length, drop, Bool, true, false, nat_le, Option, Some, None, Result, Ok, Err, if◌then◌else◌}
+use Rattle.std.specs.Prelude.{◌≡◌, ℕ, zero, suc, ◌+◌, ◌-◌, ◌<◌, ◌≤◌, ◌&&◌, ◌||◌, ◌==◌, List, [], ◌∷◌, length, drop, Bool, true, false, nat_le, Option, Some, None, Result, Ok, Err, if◌then◌else◌}
 use Rattle.std.specs.List.{prefix_len}
-use Rattle.vern_lex.specs.Comments.{is_blank, opens_comment, outside, first_place, begins}
+use Rattle.vern_lex.specs.Comments.{IsGap, is_blank, opens_comment, outside, first_place, begins, part}
 use Rattle.vern_lex.specs.declared.span.Span.{Span}
 use Rattle.vern_lex.specs.declared.sentences.SentenceCut.{SentenceCut}
 use Rattle.vern_lex.specs.declared.sentences.CutFault.{CutFault}
@@ -16,25 +16,28 @@ abbrev pub is_bullet : ℕ → Bool
 is_bullet b = b == 45 || b == 43 || b == 42
 
 -- a blank follows, or the end
-abbrev pub ends_word : List ℕ → Bool
-ends_word [] = true
-ends_word (b ∷ rest) = is_blank b
+abbrev pub is_blank_or_end : List ℕ → Bool
+is_blank_or_end [] = true
+is_blank_or_end (b ∷ rest) = is_blank b
 
 -- a text begins with a full stop that ends a sentence, or with a comment that doesn't end
 abbrev pub stops : List ℕ → Bool
 stops [] = false
-stops (b ∷ rest) = (b == 46 && ends_word rest) || opens_comment (b ∷ rest)
+stops (b ∷ rest) = (b == 46 && is_blank_or_end rest) || opens_comment (b ∷ rest)
 
 -- the length of the sentence at the front of a text, or its fault; the text begins at the offset `at`, `place` bytes before the first
 -- full stop or comment that doesn't end
-abbrev pub stopped : ℕ → ℕ → List ℕ → Result ℕ CutFault
-stopped at place [] = Err (Unclosed at)
-stopped at place (b ∷ rest) = if b == 46 then Ok (place + 1) else Err (Unclosed (at + place))
+abbrev pub length_to_full_stop : ℕ → ℕ → List ℕ → Result ℕ CutFault
+length_to_full_stop at place [] = Err (Unclosed at)
+length_to_full_stop at place (b ∷ rest) = if b == 46 then Ok (place + 1) else Err (Unclosed (at + place))
 
--- a brace alone, a bullet, or to the first full stop
-abbrev pub sentence_length : ℕ → ℕ → List ℕ → Result ℕ CutFault
-sentence_length at first text =
-    if is_brace first then Ok 1 else (if is_bullet first then Ok (prefix_len (λ b. b == first) text) else stopped at (first_place stops text) (drop (first_place stops text) text))
+-- a brace alone, a bullet, or to the first full stop; the text begins at the offset `at`
+abbrev pub sentence_length : ℕ → List ℕ → Result ℕ CutFault
+sentence_length at [] = Err (Unclosed at)
+sentence_length at (b ∷ rest) =
+    if is_brace b then Ok 1
+    else (if is_bullet b then Ok (prefix_len (λ c. c == b) (b ∷ rest))
+    else length_to_full_stop at (first_place stops (b ∷ rest)) (drop (first_place stops (b ∷ rest)) (b ∷ rest)))
 
 -- the span of so many bytes from an offset, as far as a sentence may be that long
 abbrev pub within_limit : ℕ → Result ℕ CutFault → Result Span CutFault
@@ -44,26 +47,26 @@ within_limit at (Err fault) = Err fault
 -- the sentence at the front of a text that begins at the offset `at`, with neither a blank nor a comment
 abbrev pub sentence_at : ℕ → List ℕ → Option (Result Span CutFault)
 sentence_at at [] = None
-sentence_at at (b ∷ rest) = Some (if opens_comment (b ∷ rest) then Err (Unclosed at) else within_limit at (sentence_length at b (b ∷ rest)))
+sentence_at at (b ∷ rest) = Some (if opens_comment (b ∷ rest) then Err (Unclosed at) else within_limit at (sentence_length at (b ∷ rest)))
 
 -- the first sentence of a text that begins at the offset `at`, or its fault, or none where it has only blanks and comments
 abbrev pub next_sentence : ℕ → List ℕ → Option (Result Span CutFault)
 next_sentence at text = sentence_at (at + first_place begins text) (drop (first_place begins text) text)
 
 -- no sentence more; the last one ends at the offset `at`
-abbrev pub ended : ℕ → Option CutFault → SentenceCut
-ended at fault = record { spans = []; rest = at; fault = fault }
+abbrev pub cut_up_to : ℕ → Option CutFault → SentenceCut
+cut_up_to at fault = record { spans = []; rest = at; fault = fault }
 
 abbrev pub with_span : Span → SentenceCut → SentenceCut
 with_span span cut = record { spans = span ∷ cut.spans; rest = cut.rest; fault = cut.fault }
 
 -- the sentences of a text behind the offset `at`, where one ends or the text begins, one after the other to the first fault; at most so many
 abbrev pub sentences_behind : ℕ → List ℕ → ℕ → SentenceCut
-sentences_behind zero text at = ended at None
+sentences_behind zero text at = cut_up_to at None
 sentences_behind (suc most) text at =
     elim (next_sentence at (drop at text)) [
-      | None ↦ ended at None
-      | Some found ↦ elim found [ Ok span ↦ with_span span (sentences_behind most text span.to) | Err fault ↦ ended at (Some fault) ]
+      | None ↦ cut_up_to at None
+      | Some found ↦ elim found [ Ok span ↦ with_span span (sentences_behind most text span.to) | Err fault ↦ cut_up_to at (Some fault) ]
     ]
 
 -- the sentences of a text: each has a byte at least
@@ -88,3 +91,13 @@ Rise at (span ∷ spans) = (at ≤ span.from) × Rise span.to spans
 abbrev pub last_end : ℕ → List Span → ℕ
 last_end at [] = at
 last_end at (span ∷ spans) = last_end span.to spans
+
+-- only blanks and whole comments stand before each span, from the offset `at` or the end of the span before it on
+abbrev pub HasGapsBefore : List ℕ → ℕ → List Span → Type 0
+HasGapsBefore text at [] = Unit {0}
+HasGapsBefore text at (span ∷ spans) = IsGap (part at span.from text) × HasGapsBefore text span.to spans
+
+-- the bytes of a span, cut alone, are that one sentence
+abbrev pub IsCutAlone : List ℕ → Span → Type 0
+IsCutAlone text span =
+    sentences_of (part span.from span.to text) ≡ record { spans = record { from = 0; to = span.to - span.from } ∷ []; rest = span.to - span.from; fault = None }

@@ -1,8 +1,8 @@
 -- The tokens of a sentence.
-use Rattle.std.specs.Prelude.{ℕ, zero, suc, ◌+◌, ◌<◌, ◌≤◌, ◌&&◌, ◌||◌, ◌==◌, List, [], ◌∷◌, length, drop, slice_index, Bool, nat_eq, nat_le, take_while, codes, Option, Some, None, if◌then◌else◌}
+use Rattle.std.specs.Prelude.{◌≡◌, ℕ, zero, suc, ◌+◌, ◌<◌, ◌≤◌, ◌&&◌, ◌||◌, ◌==◌, List, [], ◌∷◌, length, drop, slice_index, Bool, nat_eq, true, nat_le, take_while, codes, Option, Some, None, if◌then◌else◌}
 use Rattle.std.specs.List.{list_all}
 use Rattle.std.specs.Cmp.Lexicographic.{pointwise}
-use Rattle.vern_lex.specs.Comments.{outside, first_place, begins}
+use Rattle.vern_lex.specs.Comments.{IsGap, outside, first_place, begins, part}
 use Rattle.vern_lex.specs.Sentences.{is_bullet}
 use Rattle.vern_lex.specs.declared.token.Token.{Token}
 use Rattle.vern_lex.specs.declared.token.TokenKind.{TokenKind}
@@ -106,8 +106,9 @@ tokens_of sentence = elim (lone_kind sentence) [ Some kind ↦ token_of 0 kind (
 
 -- ---- what tokens are
 
--- a token of a sentence has a byte at least, and is a slice of the sentence
+-- a token of a sentence has a byte at least, is a slice of the sentence, and begins with neither a blank nor a comment
 pub record IsTokenOf (sentence : List ℕ) (token : Token) : Type 0 where
+  pub begun : begins (outside (drop token.span.from sentence)) ≡ true
   pub some : token.span.from < token.span.to
   pub within : token.span.to ≤ length sentence
 
@@ -115,3 +116,8 @@ pub record IsTokenOf (sentence : List ℕ) (token : Token) : Type 0 where
 abbrev pub TokensRise : ℕ → List Token → Type 0
 TokensRise at [] = Unit {0}
 TokensRise at (token ∷ tokens) = (at ≤ token.span.from) × TokensRise token.span.to tokens
+
+-- only blanks and whole comments stand before each token, from the offset `at` or the end of the token before it on, and behind the last
+abbrev pub HasOnlyGaps : List ℕ → ℕ → List Token → Type 0
+HasOnlyGaps sentence at [] = IsGap (drop at sentence)
+HasOnlyGaps sentence at (token ∷ tokens) = IsGap (part at token.span.from sentence) × HasOnlyGaps sentence token.span.to tokens

@@ -1,6 +1,7 @@
 //! Blanks and comments.
 ghost use Rattle.std.specs.Prelude.{◌≡◌, ◌+◌, ◌-◌, ◌<◌, ◌≤◌, ◌^◌, length, drop, slice_index, if◌then◌else◌, IfOk, Option, Some, None, MatchOption};
-ghost use Rattle.vern_lex.specs.Comments.{IsTable, behind, begins, comment_length, first_place, closes_comment, is_blank, opens_comment, outside};
+ghost use Rattle.vern_lex.specs.Closers.{IsTable};
+ghost use Rattle.vern_lex.specs.Comments.{behind, begins, comment_length, first_place, closes_comment, is_blank, opens_comment, outside};
 
 use base_core::NoMemory;
 use std::alloc::Global;
@@ -56,6 +57,16 @@ fn closers_inside(text: &[u8], table: &[usize]) -> usize
         .get(text.len().saturating_sub(2))
         .copied()
         .unwrap_or(0)
+}
+
+/// The table that is kept, if one is.
+pub fn table_of(kept: &Option<Vec<usize>>) -> Option<&[usize]>
+    ensures { MatchOption result (kept.now ≡ None) (λ table. MatchOption kept.now ⊥ (λ k. table.now ≡ k.items)) }
+{
+    match kept {
+        Some(table) => Some(table.as_slice()),
+        None => None,
+    }
 }
 
 /// The closers of each end of a text, the shortest end first. It goes over the text once.

@@ -1,10 +1,11 @@
 //! The tokens of a sentence, one after the other.
-ghost use Rattle.std.specs.Prelude.{◌≡◌, ℕ, ◌+◌, ◌<◌, ◌==◌, ◌^◌, List, [], ◌∷◌, All, length, IfOk, MatchOption};
+ghost use Rattle.std.specs.Prelude.{◌≡◌, ℕ, ◌+◌, ◌<◌, ◌==◌, ◌^◌, List, [], ◌∷◌, All, length, drop, IfOk, MatchOption};
 ghost use Rattle.std.specs.List.{list_all};
-ghost use Rattle.vern_lex.specs.Comments.{IsTable};
-ghost use Rattle.vern_lex.specs.Tokens.{IsTokenOf, TokensRise, lone_kind, next_token, token_at, token_of, tokens_behind, tokens_of, word_kind};
+ghost use Rattle.vern_lex.specs.Closers.{IsTable};
+ghost use Rattle.vern_lex.specs.Comments.{opens_comment};
+ghost use Rattle.vern_lex.specs.Tokens.{HasOnlyGaps, IsTokenOf, TokensRise, lone_kind, next_token, token_at, token_of, tokens_behind, tokens_of, word_kind};
 
-use crate::comments::{closers_table, gap_length};
+use crate::comments::{closers_table, gap_length, opens_comment, table_of};
 use crate::sentences::is_bullet;
 use crate::signs::{sign_at, token_of};
 use crate::token::{Token, TokenKind, Tokens};
@@ -17,14 +18,10 @@ use std::alloc::Global;
 pub fn tokens(alloc: Global, sentence: &[u8]) -> Result<Tokens, NoMemory>
     ensures { IfOk result (λ found. found ≡ tokens_of sentence.now) }
 {
-    if let Some(kind) = lone_kind(sentence) {
-        return lone_token(alloc, kind, sentence.len());
+    match lone_kind(sentence) {
+        Some(kind) => lone_token(alloc, kind, sentence.len()),
+        None => other_tokens(alloc, sentence),
     }
-    if !sentence.contains(&b'*') {
-        return tokens_by(alloc, sentence, None);
-    }
-    let table = closers_table(alloc, sentence)?;
-    tokens_by(alloc, sentence, Some(table.as_slice()))
 }
 
 /// The one token of a brace or a bullet alone.
@@ -36,25 +33,40 @@ fn lone_token(alloc: Global, kind: TokenKind, length: usize) -> Result<Tokens, N
     Ok(Tokens::from_vec(found))
 }
 
-/// The tokens of a sentence that is no brace or bullet alone, by the table of its ends' closers where that is
-/// at hand.
-fn tokens_by(alloc: Global, sentence: &[u8], table: Option<&[usize]>) -> Result<Tokens, NoMemory>
-    requires { MatchOption table (Unit {0}) (λ t. IsTable sentence.now t.now) }
+/// The tokens of a sentence that is no brace or bullet alone. Once it has met a comment that doesn't end, it
+/// keeps the table of the sentence's closers.
+fn other_tokens(alloc: Global, sentence: &[u8]) -> Result<Tokens, NoMemory>
     ensures { IfOk result (λ found. found ≡ tokens_behind (length sentence.now) sentence.now 0) }
 {
     let mut found = Vec::new(alloc);
+    let mut kept = None;
     let mut at = 0;
-    'tokens: while let Some(token) = next_token(sentence.split_at(at).1, at, table) {
+    'tokens: while let Some(token) = next_token(sentence.split_at(at).1, at, table_of(&kept)) {
         found.push(token)?;
         at = token.span.to as usize;
+        if kept.is_none() && opens_comment_at(sentence, token.span.from) {
+            kept = Some(closers_table(alloc, sentence)?);
+        }
     }
     Ok(Tokens::from_vec(found))
 }
 
-/// The laws of tokens: they rise and don't overlap, and each is a slice of its sentence.
+/// Whether `(*` stands at an offset. Where a token begins, it opens a comment that doesn't end.
+fn opens_comment_at(text: &[u8], at: u64) -> bool
+    ensures { result ≡ opens_comment (drop at text.now) }
+{
+    match text.get(at as usize..) {
+        Some(rest) => opens_comment(rest),
+        None => false,
+    }
+}
+
+/// The laws of tokens: they rise and don't overlap, each is a slice of its sentence, and what stands between
+/// them is blanks and whole comments.
 pub fn tokens_are_slices()
     ensures rise { (sentence : List ℕ) → TokensRise 0 (tokens_of sentence) }
     ensures each { (sentence : List ℕ) → All (IsTokenOf sentence) (tokens_of sentence) }
+    ensures between { (sentence : List ℕ) → All (λ b. b < 256) sentence → HasOnlyGaps sentence 0 (tokens_of sentence) }
 {}
 
 /// The kind of a brace or a bullet that is a sentence alone.
@@ -118,7 +130,7 @@ mod tests {
     type Row = (TokenKind, u64, u64);
 
     /// Sentences with their tokens.
-    const CASES: [(&[u8], &[Row]); 22] = [
+    const CASES: [(&[u8], &[Row]); 23] = [
         (b"", &[]),
         (b" (* x *) ", &[]),
         (b"Qed.", &[(Name, 0, 3), (FullStop, 3, 4)]),
@@ -191,6 +203,16 @@ mod tests {
             &[(LeftParenthesis, 0, 1), (Stray, 1, 2), (Name, 11, 12)],
         ),
         (
+            b"(* (* x *) (* y (* z *)",
+            &[
+                (LeftParenthesis, 0, 1),
+                (Stray, 1, 2),
+                (LeftParenthesis, 11, 12),
+                (Stray, 12, 13),
+                (Name, 14, 15),
+            ],
+        ),
+        (
             b"(*)",
             &[
                 (LeftParenthesis, 0, 1),
@@ -218,10 +240,15 @@ mod tests {
     #[test]
     fn a_megabyte_has_its_tokens_at_once(rt: HostRuntime) -> Result<(), Fail> {
         let mut comments = Vec::new(rt.alloc());
+        let mut bullet = Vec::new(rt.alloc());
         for _ in 0..524288 {
             comments.extend_from_slice(b"(*")?;
+            bullet.extend_from_slice(b"--")?;
         }
         assert_eq!(rt; tokens(rt.alloc(), &comments)?.len(), 1048576);
+        assert_tokens(&rt, &bullet, &[(Bullet, 0, 1048576)])?;
+        bullet.push(b'.')?;
+        assert_eq!(rt; tokens(rt.alloc(), &bullet)?.len(), 1048577);
         Ok(())
     }
 

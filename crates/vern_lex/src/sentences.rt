@@ -1,10 +1,10 @@
 //! The sentences of a text.
-ghost use Rattle.std.specs.Prelude.{◌≡◌, ℕ, List, All, ◌+◌, ◌<◌, ◌≤◌, ◌==◌, ◌^◌, length, drop, IfOk};
+ghost use Rattle.std.specs.Prelude.{◌≡◌, ℕ, List, All, ◌+◌, ◌<◌, ◌≤◌, ◌==◌, ◌^◌, length, drop, IfOk, None};
 ghost use Rattle.std.specs.List.{prefix_len};
-ghost use Rattle.vern_lex.specs.Comments.{comment_length, first_place, outside};
-ghost use Rattle.vern_lex.specs.Sentences.{IsSentenceSpan, Rise, last_end, is_brace, is_bullet, next_sentence, sentence_at, sentence_length, sentences_of, stopped, stops, ends_word, within_limit};
+ghost use Rattle.vern_lex.specs.Comments.{IsGap, comment_length, first_place, outside};
+ghost use Rattle.vern_lex.specs.Sentences.{HasGapsBefore, IsCutAlone, IsSentenceSpan, Rise, last_end, is_brace, is_bullet, next_sentence, sentence_at, sentence_length, sentences_of, length_to_full_stop, stops, is_blank_or_end, within_limit};
 
-use crate::comments::{comment_length, gap_length, is_blank};
+use crate::comments::{comment_length, gap_length, is_blank, opens_comment};
 use crate::span::{Span, Spans};
 use base_core::NoMemory;
 use std::alloc::Global;
@@ -47,21 +47,26 @@ pub fn cut_sentences(alloc: Global, text: &[u8]) -> Result<SentenceCut, NoMemory
                 spans.push(span)?;
                 at = span.to as usize;
             }
-            Err(fault) => return Ok(ended(spans, at, Some(fault))),
+            Err(fault) => return Ok(cut_up_to(spans, at, Some(fault))),
         }
     }
-    Ok(ended(spans, at, None))
+    Ok(cut_up_to(spans, at, None))
 }
 
-/// The laws of cutting: spans rise and don't overlap, each is of a sentence, and `rest` is where the last ends.
+/// The laws of cutting: spans rise and don't overlap, each is of a sentence, and its bytes cut alone are that
+/// sentence; `rest` is where the last ends; blanks and comments before a sentence don't belong to it, and they
+/// alone are left where there is no fault.
 pub fn spans_are_of_sentences()
     ensures rise { (text : List ℕ) → Rise 0 (sentences_of text).spans }
     ensures each { (text : List ℕ) → All (IsSentenceSpan text) (sentences_of text).spans }
+    ensures alone { (text : List ℕ) → All (IsCutAlone text) (sentences_of text).spans }
     ensures rest { (text : List ℕ) → (sentences_of text).rest ≡ last_end 0 (sentences_of text).spans }
+    ensures between { (text : List ℕ) → All (λ b. b < 256) text → HasGapsBefore text 0 (sentences_of text).spans }
+    ensures left { (text : List ℕ) → All (λ b. b < 256) text → (sentences_of text).fault ≡ None → IsGap (drop (sentences_of text).rest text) }
 {}
 
 /// What was cut up to an offset where nothing more is.
-fn ended(spans: Vec<Span>, at: usize, fault: Option<CutFault>) -> SentenceCut
+fn cut_up_to(spans: Vec<Span>, at: usize, fault: Option<CutFault>) -> SentenceCut
     ensures { result ≡ record { spans = spans.items; rest = at; fault = fault } }
 {
     SentenceCut {
@@ -88,8 +93,8 @@ fn sentence_at(text: &[u8], at: usize) -> Option<Result<Span, CutFault>>
 {
     match text {
         [] => None,
-        [b'(', b'*', ..] => Some(Err(CutFault::Unclosed(at as u64))),
-        [first, ..] => Some(within_limit(sentence_length(text, *first, at), at)),
+        _ if opens_comment(text) => Some(Err(CutFault::Unclosed(at as u64))),
+        _ => Some(within_limit(sentence_length(text, at), at)),
     }
 }
 
@@ -109,18 +114,16 @@ fn within_limit(length: Result<usize, CutFault>, at: usize) -> Result<Span, CutF
 }
 
 /// The length of the sentence that a text begins with, by its first byte.
-fn sentence_length(text: &[u8], first: u8, at: usize) -> Result<usize, CutFault>
+fn sentence_length(text: &[u8], at: usize) -> Result<usize, CutFault>
     requires room { at + length text.now < 2 ^ 64 }
-    requires first { 0 < prefix_len (λ b. b == first) text.now }
-    ensures value { result ≡ sentence_length at first (outside text.now) }
+    requires begun { comment_length text.now ≡ 0 }
+    ensures value { result ≡ sentence_length at (outside text.now) }
     ensures within { IfOk result (λ n. n ≤ length text.now) }
 {
-    if is_brace(first) {
-        Ok(1)
-    } else if is_bullet(first) {
-        Ok(run_length(text, first))
-    } else {
-        stopped(text, at)
+    match text {
+        [first, ..] if is_brace(*first) => Ok(1),
+        [first, ..] if is_bullet(*first) => Ok(run_length(text, *first)),
+        _ => length_to_full_stop(text, at),
     }
 }
 
@@ -146,9 +149,9 @@ fn run_length(text: &[u8], byte: u8) -> usize
 }
 
 /// The length of a sentence that ends with a full stop, in a text that begins at an offset.
-fn stopped(text: &[u8], at: usize) -> Result<usize, CutFault>
+fn length_to_full_stop(text: &[u8], at: usize) -> Result<usize, CutFault>
     requires { at + length text.now < 2 ^ 64 }
-    ensures value { result ≡ stopped at (first_place stops (outside text.now)) (drop (first_place stops (outside text.now)) (outside text.now)) }
+    ensures value { result ≡ length_to_full_stop at (first_place stops (outside text.now)) (drop (first_place stops (outside text.now)) (outside text.now)) }
     ensures within { IfOk result (λ n. n ≤ length text.now) }
 {
     let place = stop_place(text);
@@ -179,19 +182,19 @@ fn stop_place(text: &[u8]) -> usize
 fn unstopped_length(text: &[u8]) -> usize
     ensures within { result ≤ length text.now }
     ensures place { first_place stops (outside text.now) ≡ result + first_place stops (outside (drop result text.now)) }
-    ensures stopped { result ≡ 0 → first_place stops (outside text.now) ≡ 0 }
+    ensures stop { result ≡ 0 → first_place stops (outside text.now) ≡ 0 }
 {
     match text {
         [] => 0,
-        [b'.', rest @ ..] if ends_word(rest) => 0,
-        [b'(', b'*', ..] => comment_length(text),
+        [b'.', rest @ ..] if is_blank_or_end(rest) => 0,
+        _ if opens_comment(text) => comment_length(text),
         _ => 1,
     }
 }
 
 /// Whether a blank follows, or the end.
-fn ends_word(text: &[u8]) -> bool
-    ensures { result ≡ ends_word text.now }
+fn is_blank_or_end(text: &[u8]) -> bool
+    ensures { result ≡ is_blank_or_end text.now }
 {
     match text {
         [] => true,

@@ -22,9 +22,9 @@ sentences-preserved c =
 pub returns-in-Err : goal.returns-in-Err
 returns-in-Err c =
     let found : next_sentence c.sentences.at (outside c.split_at.result.1.now) ≡ Some (Err c.in-Err.fault) = cc in
-    c.ended.ensures ∙ cut-faulted c.args.text.now c.split_at.result.1.now c.sentences.spans.items c.sentences.at c.in-Err.fault c.sentences.invariant c.split_at.ensures.back found
+    c.cut_up_to.ensures ∙ cut-faulted c.args.text.now c.split_at.result.1.now c.sentences.spans.items c.sentences.at c.in-Err.fault c.sentences.invariant c.split_at.ensures.back found
 
 pub returns : goal.returns
 returns c =
     let none : next_sentence c.sentences.at (outside c.split_at.result.1.now) ≡ None = cc in
-    c.ended-2.ensures ∙ cut-done c.args.text.now c.split_at.result.1.now c.sentences.spans.items c.sentences.at c.sentences.invariant c.split_at.ensures.back none
+    c.cut_up_to-2.ensures ∙ cut-done c.args.text.now c.split_at.result.1.now c.sentences.spans.items c.sentences.at c.sentences.invariant c.split_at.ensures.back none

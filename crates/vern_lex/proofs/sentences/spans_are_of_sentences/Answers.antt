@@ -1,3 +1,5 @@
+use Rattle.vern_lex.proofs.Alone.{spans_alone}
+use Rattle.vern_lex.proofs.Between.{spans_between, spans_left}
 use Rattle.vern_lex.proofs.Cutting.{spans_rise, spans_each, spans_rest}
 use Rattle.vern_lex.proofs.sentences.spans_are_of_sentences.Goals as goal
 
@@ -9,3 +11,12 @@ returns-clause-each c = spans_each
 
 pub returns-clause-rest : goal.returns-clause-rest
 returns-clause-rest c = spans_rest
+
+pub returns-clause-alone : goal.returns-clause-alone
+returns-clause-alone c = spans_alone
+
+pub returns-clause-between : goal.returns-clause-between
+returns-clause-between c = spans_between
+
+pub returns-clause-left : goal.returns-clause-left
+returns-clause-left c = spans_left
