@@ -3,8 +3,8 @@ use Rattle.std.proofs.Common.{◌≡◌, ℕ, zero, suc, ◌+◌, ◌-◌, ◌<�
 use Rattle.std.proofs.lemmas.Bool.Decides.{nat_tests}
 use Rattle.std.proofs.Math.Path.{fun_ext}
 use Rattle.fol_theory.specs.Syntax.{Term, var, Formula, all, ex}
-use Rattle.fol_theory.specs.Substitution.{replace_term, replace, next, lift, raise, put, shift, shift_term, substitute, first}
-use Rattle.fol_theory.proofs.Laws.{term_twice, term_identity}
+use Rattle.fol_theory.specs.Substitution.{replace_term, replace, next, lift, raise, put, shift, shift_term, substitute, first, under}
+use Rattle.fol_theory.proofs.Laws.{term_twice, term_identity, replace_twice, replace_identity}
 
 pub raise_small : (from by i : ℕ) → i < from → raise from by i ≡ var i
 raise_small from by i h = grind (arith, nat_tests)
@@ -78,14 +78,17 @@ substitute_all k v s x a = ap (λ ρ. all s x (replace ρ a)) (lift_put k v)
 pub substitute_ex : (k : ℕ) (v : Term) (s x : List ℕ) (a : Formula) → substitute k v (ex s x a) ≡ ex s x (substitute (k + 1) (shift_term 0 1 v) a)
 substitute_ex k v s x a = ap (λ ρ. ex s x (replace ρ a)) (lift_put k v)
 
--- ---- a value under several binders
+-- ---- under several binders
 
-raise_none_at : (i : ℕ) → raise 0 0 i ≡ var i
-raise_none_at i = raise_large 0 0 i (omega arith) ∙ ap var (omega arith)
+raise_none_at : (from i : ℕ) → raise from 0 i ≡ var i
+raise_none_at from i = grind (arith, nat_tests)
 
 -- a shift by nothing
-pub shift_none : (t : Term) → shift_term 0 0 t ≡ t
-shift_none t = ap (λ ρ. replace_term ρ t) (fun_ext raise_none_at) ∙ term_identity t
+pub shift_none : (from : ℕ) (a : Formula) → shift from 0 a ≡ a
+shift_none from a = ap (λ ρ. replace ρ a) (fun_ext (raise_none_at from)) ∙ replace_identity a
+
+pub shift_none_term : (from : ℕ) (t : Term) → shift_term from 0 t ≡ t
+shift_none_term from t = ap (λ ρ. replace_term ρ t) (fun_ext (raise_none_at from)) ∙ term_identity t
 
 raise_once_more_at : (by i : ℕ) → replace_term (raise 0 1) (raise 0 by i) ≡ raise 0 (by + 1) i
 raise_once_more_at by i = grind (arith, nat_tests)
@@ -93,3 +96,6 @@ raise_once_more_at by i = grind (arith, nat_tests)
 -- a shift by one more
 pub shift_once_more : (by : ℕ) (t : Term) → shift_term 0 1 (shift_term 0 by t) ≡ shift_term 0 (by + 1) t
 shift_once_more by t = term_twice (raise 0 1) (raise 0 by) t ∙ ap (λ ρ. replace_term ρ t) (fun_ext (raise_once_more_at by))
+
+pub under_shift : (by : ℕ) (a : Formula) → under (shift 0 by a) ≡ shift 0 (by + 1) a
+under_shift by a = ap (λ ρ. replace ρ (shift 0 by a)) next_raise ∙ replace_twice (raise 0 1) (raise 0 by) a ∙ ap (λ ρ. replace ρ a) (fun_ext (raise_once_more_at by))

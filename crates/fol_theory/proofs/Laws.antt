@@ -97,3 +97,14 @@ instantiate_under a t = undo (first t) next (λ i. refl) a
 pub replace_each : (σ : ℕ → Term) (ts : List Term) → replace_terms σ (terms ts) ≡ terms (map (replace_term σ) ts)
 replace_each σ [] = refl
 replace_each σ (t ∷ ts) = ap (cons (replace_term σ t)) (replace_each σ ts)
+
+abbrev listed : Terms → List Term
+listed nil = []
+listed (cons t ts) = t ∷ listed ts
+
+listed_terms : (ts : List Term) → listed (terms ts) ≡ ts
+listed_terms [] = refl
+listed_terms (t ∷ ts) = ap (λ us. t ∷ us) (listed_terms ts)
+
+pub terms_injective : (ts us : List Term) → terms ts ≡ terms us → ts ≡ us
+terms_injective ts us e = sym (listed_terms ts) ∙ ap listed e ∙ listed_terms us

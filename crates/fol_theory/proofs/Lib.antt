@@ -6,3 +6,4 @@ pub mod Reaches
 pub mod Names
 pub mod Entries
 pub mod Gaps
+pub mod Numbers

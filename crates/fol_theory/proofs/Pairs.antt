@@ -1,5 +1,6 @@
 -- One variable after another: each pair of a shift and a substitution.
-use Rattle.std.proofs.Common.{◌≡◌, ℕ, ◌+◌, ◌≤◌, ap, ◌∙◌, arith}
+use Rattle.std.proofs.Common.{◌≡◌, ℕ, ◌+◌, ◌-◌, ◌≤◌, sym, ap, ◌∙◌, arith}
+use Rattle.std.specs.Prelude.{if◌then◌else◌, nat_lt}
 use Rattle.std.proofs.lemmas.Bool.Decides.{nat_tests}
 use Rattle.std.proofs.Math.Path.{fun_ext}
 use Rattle.fol_theory.specs.Syntax.{Term, var, Formula}
@@ -61,3 +62,18 @@ substitute_substitute j k w v a h = by_points _ _ _ _ (λ i. substitute_substitu
 
 pub substitute_substitute_term : (j k : ℕ) (w v t : Term) → k ≤ j → substitute_term j w (substitute_term k v t) ≡ substitute_term k (substitute_term j w v) (substitute_term (j + 1) (shift_term k 1 w) t)
 substitute_substitute_term j k w v t h = term_by_points _ _ _ _ (λ i. substitute_substitute_at j k w v i h) t
+
+-- ---- a shift loses nothing
+
+-- what takes a shift back
+abbrev lower : ℕ → ℕ → ℕ → Term
+lower from by i = if nat_lt i from then var i else var (i - by)
+
+lower_at : (from by i : ℕ) → replace_term (lower from by) (raise from by i) ≡ var i
+lower_at from by i = grind (arith, nat_tests)
+
+pub shift_injective : (from by : ℕ) (a b : Formula) → shift from by a ≡ shift from by b → a ≡ b
+shift_injective from by a b e = sym (undo (lower from by) (raise from by) (lower_at from by) a) ∙ ap (replace (lower from by)) e ∙ undo (lower from by) (raise from by) (lower_at from by) b
+
+pub shift_injective_term : (from by : ℕ) (t u : Term) → shift_term from by t ≡ shift_term from by u → t ≡ u
+shift_injective_term from by t u e = sym (term_undo (lower from by) (raise from by) (lower_at from by) t) ∙ ap (replace_term (lower from by)) e ∙ term_undo (lower from by) (raise from by) (lower_at from by) u

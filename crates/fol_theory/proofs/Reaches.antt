@@ -71,3 +71,6 @@ shift_term_fits limit from by t h = omega (arith, h, shift_term_reach from by t)
 
 pub substitute_fits : (limit k : ℕ) (v : Term) (a : Formula) → reach a ≤ limit → term_reach v + height a ≤ limit → reach (substitute k v a) ≤ limit
 substitute_fits limit k v a h g = omega (arith, h, g, substitute_reach k v a, depth_below a)
+
+pub substitute_term_fits : (limit k : ℕ) (v t : Term) → term_reach t ≤ limit → term_reach v ≤ limit → term_reach (substitute_term k v t) ≤ limit
+substitute_term_fits limit k v t h g = omega (arith, h, g, substitute_term_reach k v t)

@@ -1,10 +1,11 @@
 //! The laws of contexts.
-ghost use Rattle.std.specs.Prelude.{◌≡◌, ◌↔◌, ◌∷◌, ℕ, List, map, length};
+ghost use Rattle.std.specs.Prelude.{◌≡◌, ◌↔◌, ◌<◌, ◌∷◌, ◌++◌, ℕ, List, map, length};
 ghost use Rattle.fol_theory.specs.Syntax.{Formula};
-ghost use Rattle.fol_theory.specs.Substitution.{under};
+ghost use Rattle.fol_theory.specs.Substitution.{under, shift};
 ghost use Rattle.fol_theory.specs.Contexts.{Entry, variable, hypothesis, variables, hypotheses, count, IsHypothesis, IsFromLast, omit, without};
 
-/// What a context becomes by a variable more, by a hypothesis more, and without a hypothesis.
+/// What a context becomes by a variable more, by a hypothesis more, and without a hypothesis; that each number
+/// below the count is of one hypothesis; and how a hypothesis, told by its place, stands under all variables.
 pub fn contexts_grow_and_shrink()
     ensures variable_variables { (s : List ℕ) (c : List Entry) → variables (variable s ∷ c) ≡ s ∷ variables c }
     ensures variable_hypotheses { (s : List ℕ) (c : List Entry) → hypotheses (variable s ∷ c) ≡ map under (hypotheses c) }
@@ -14,4 +15,9 @@ pub fn contexts_grow_and_shrink()
     ensures without_hypotheses { (c : List Entry) (i : ℕ) → hypotheses (without c i) ≡ omit i (hypotheses c) }
     ensures count { (c : List Entry) → length (hypotheses c) ≡ count c }
     ensures numbered { (c : List Entry) (i : ℕ) (a : Formula) → IsHypothesis c i a ↔ IsFromLast (hypotheses c) i a }
+    ensures numbered_once { (c : List Entry) (i : ℕ) (a b : Formula) → IsHypothesis c i a → IsHypothesis c i b → a ≡ b }
+    ensures numbered_below { (c : List Entry) (i : ℕ) (a : Formula) → IsHypothesis c i a → i < count c }
+    ensures numbered_all { (c : List Entry) (i : ℕ) → i < count c → (a : Formula) × IsHypothesis c i a }
+    ensures placed { (newer older : List Entry) (a : Formula) → IsHypothesis (newer ++ hypothesis a ∷ older) (count older) (shift 0 (length (variables newer)) a) }
+    ensures without_placed { (newer older : List Entry) (a : Formula) → without (newer ++ hypothesis a ∷ older) (count older) ≡ newer ++ older }
 {}

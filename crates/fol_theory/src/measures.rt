@@ -1,5 +1,5 @@
 //! The laws of nodes and height.
-ghost use Rattle.std.specs.Prelude.{◌≡◌, ◌+◌, ◌*◌, ◌≤◌, ℕ};
+ghost use Rattle.std.specs.Prelude.{◌≡◌, ◌+◌, ◌*◌, ◌≤◌, ◌<◌, ℕ};
 ghost use Rattle.fol_theory.specs.Syntax.{Term, Formula};
 ghost use Rattle.fol_theory.specs.Substitution.{replace, shift, shift_term, substitute, substitute_term};
 ghost use Rattle.fol_theory.specs.Measures.{nodes, term_nodes, height, term_height, depth};
@@ -15,5 +15,10 @@ pub fn replacing_is_measured()
     ensures substitute_nodes_most { (k : ℕ) (v : Term) (a : Formula) → nodes (substitute k v a) ≤ nodes a * term_nodes v }
     ensures substitute_height_least { (k : ℕ) (v : Term) (a : Formula) → height a ≤ height (substitute k v a) }
     ensures substitute_height_most { (k : ℕ) (v : Term) (a : Formula) → height (substitute k v a) ≤ height a + term_height v }
+    ensures substitute_term_nodes_least { (k : ℕ) (v t : Term) → term_nodes t ≤ term_nodes (substitute_term k v t) }
+    ensures substitute_term_nodes_most { (k : ℕ) (v t : Term) → term_nodes (substitute_term k v t) ≤ term_nodes t * term_nodes v }
+    ensures substitute_term_height_least { (k : ℕ) (v t : Term) → term_height t ≤ term_height (substitute_term k v t) }
+    ensures substitute_term_height_most { (k : ℕ) (v t : Term) → term_height (substitute_term k v t) ≤ term_height t + term_height v }
+    ensures depth_below { (a : Formula) → depth a < height a }
     ensures depth { (σ : ℕ → Term) (a : Formula) → depth (replace σ a) ≡ depth a }
 {}

@@ -12,7 +12,6 @@ use Rattle.term_core.specs.declared.formula.Formula.TheOpen.{Formula-F}
 use Rattle.term_core.specs.declared.formula.Formula.TheVariants as made
 use Rattle.term_core.specs.declared.formula.Formula.TheViews.{roll-Formula}
 use Rattle.term_core.specs.declared.formula.Formula.TheFolds.{ind-Formula, map-Formula}
-use Rattle.term_core.proofs.Equals.{terms_injective}
 use Rattle.term_core.proofs.Variants.{meaning_True, meaning_False, unnamed_Pred, unnamed_Eq, unnamed_And, unnamed_Or, unnamed_Imp, unnamed_All, unnamed_Ex}
 
 pub data Kind : Type 0 where
@@ -65,4 +64,4 @@ known = ind-Formula Known (λ x y is. subst (λ z. Known (roll-Formula z)) is (s
 pub made_alike : (k : Kind) (a b : Formula) → kind (unnamed (meaning a)) ≡ k → unnamed (meaning a) ≡ unnamed (meaning b) → IsMade b k
 made_alike k a b e is = subst (IsMade b) (sym (ap kind is) ∙ e) (known b)
 
-pub ruleset alike = (terms_injective, unnamed_Pred, unnamed_Eq, unnamed_And, unnamed_Or, unnamed_Imp, unnamed_All, unnamed_Ex)
+pub ruleset alike = (unnamed_Pred, unnamed_Eq, unnamed_And, unnamed_Or, unnamed_Imp, unnamed_All, unnamed_Ex)

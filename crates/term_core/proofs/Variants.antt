@@ -1,13 +1,12 @@
 -- What each variant stands for, and what a substitution and the measures make of it.
-use Rattle.std.proofs.Common.{◌≡◌, ℕ, ◌+◌, max, List, [], map, ap, sym, ◌∙◌}
+use Rattle.std.proofs.Common.{◌≡◌, ℕ, ◌+◌, max, List, [], ap, sym, ◌∙◌}
 use Rattle.std.specs.Prelude.{Vec, Box}
 use Rattle.std.specs.declared.alloc.Global.{Global}
-use Rattle.fol_theory.specs.Syntax.{Term as TermMeaning, Formula as Meaning, truth, falsity, pred, equal, both, either, implies, all, ex, terms}
-use Rattle.fol_theory.specs.Substitution.{replace_term, replace, lift, raise, put}
+use Rattle.fol_theory.specs.Syntax.{Term as TermMeaning, Formula as Meaning, truth, falsity, pred, equal, both, either, implies, all, ex}
+use Rattle.fol_theory.specs.Substitution.{replace_term, replace_terms, replace, lift, raise, put}
 use Rattle.fol_theory.specs.Measures.{term_nodes, terms_nodes, nodes, term_height, terms_height, height, term_reach, terms_reach, reach, depth}
 use Rattle.fol_theory.specs.Printing.{unnamed}
-use Rattle.fol_theory.proofs.Laws.{replace_each}
-use Rattle.fol_theory.proofs.AtIndex.{lift_put, shift_once_more, shift_none}
+use Rattle.fol_theory.proofs.AtIndex.{lift_put, shift_once_more}
 use Rattle.term_core.specs.Term as term
 use Rattle.term_core.specs.Formula.{meaning, meaning_step}
 use Rattle.term_core.specs.declared.term.Term.{Term}
@@ -22,7 +21,7 @@ meaning_True = ap meaning (sym made.rolls-True) ∙ fold-roll-Formula Meaning me
 pub meaning_False : meaning made.False ≡ falsity
 meaning_False = ap meaning (sym made.rolls-False) ∙ fold-roll-Formula Meaning meaning_step layer.False
 
-pub meaning_Pred : (p : List ℕ) (ts : Vec Term Global) → meaning (made.Pred p ts) ≡ pred p (terms (map term.meaning ts.items))
+pub meaning_Pred : (p : List ℕ) (ts : Vec Term Global) → meaning (made.Pred p ts) ≡ pred p (term.list_meaning ts.items)
 meaning_Pred p ts = ap meaning (sym (made.rolls-Pred p ts)) ∙ fold-roll-Formula Meaning meaning_step (layer.Pred p ts)
 
 pub meaning_Eq : (s : List ℕ) (a b : Term) → meaning (made.Eq s a b) ≡ equal s (term.meaning a) (term.meaning b)
@@ -45,8 +44,8 @@ meaning_Ex s x a = ap meaning (sym (made.rolls-Ex s x a)) ∙ fold-roll-Formula 
 
 -- ---- a substitution
 
-pub replace_Pred : (σ : ℕ → TermMeaning) (p : List ℕ) (ts : Vec Term Global) → replace σ (meaning (made.Pred p ts)) ≡ pred p (terms (map (replace_term σ) (map term.meaning ts.items)))
-replace_Pred σ p ts = ap (replace σ) (meaning_Pred p ts) ∙ ap (pred p) (replace_each σ (map term.meaning ts.items))
+pub replace_Pred : (σ : ℕ → TermMeaning) (p : List ℕ) (ts : Vec Term Global) → replace σ (meaning (made.Pred p ts)) ≡ pred p (replace_terms σ (term.list_meaning ts.items))
+replace_Pred σ p ts = ap (replace σ) (meaning_Pred p ts)
 
 pub replace_Eq : (σ : ℕ → TermMeaning) (s : List ℕ) (a b : Term) → replace σ (meaning (made.Eq s a b)) ≡ equal s (replace_term σ (term.meaning a)) (replace_term σ (term.meaning b))
 replace_Eq σ s a b = ap (replace σ) (meaning_Eq s a b)
@@ -60,7 +59,7 @@ replace_Or σ a b = ap (replace σ) (meaning_Or a b)
 pub replace_Imp : (σ : ℕ → TermMeaning) (a b : Box Formula Global) → replace σ (meaning (made.Imp a b)) ≡ implies (replace σ (meaning a.value)) (replace σ (meaning b.value))
 replace_Imp σ a b = ap (replace σ) (meaning_Imp a b)
 
-pub reach_Pred : (σ : ℕ → TermMeaning) (p : List ℕ) (ts : Vec Term Global) → reach (replace σ (meaning (made.Pred p ts))) ≡ terms_reach (terms (map (replace_term σ) (map term.meaning ts.items)))
+pub reach_Pred : (σ : ℕ → TermMeaning) (p : List ℕ) (ts : Vec Term Global) → reach (replace σ (meaning (made.Pred p ts))) ≡ terms_reach (replace_terms σ (term.list_meaning ts.items))
 reach_Pred σ p ts = ap reach (replace_Pred σ p ts)
 
 pub reach_Eq : (σ : ℕ → TermMeaning) (s : List ℕ) (a b : Term) → reach (replace σ (meaning (made.Eq s a b))) ≡ max (term_reach (replace_term σ (term.meaning a))) (term_reach (replace_term σ (term.meaning b)))
@@ -111,7 +110,7 @@ depth_Ex s x a = ap depth (meaning_Ex s x a)
 
 -- ---- nodes
 
-pub nodes_Pred : (p : List ℕ) (ts : Vec Term Global) → nodes (meaning (made.Pred p ts)) ≡ terms_nodes (terms (map term.meaning ts.items)) + 1
+pub nodes_Pred : (p : List ℕ) (ts : Vec Term Global) → nodes (meaning (made.Pred p ts)) ≡ terms_nodes (term.list_meaning ts.items) + 1
 nodes_Pred p ts = ap nodes (meaning_Pred p ts)
 
 pub nodes_Eq : (s : List ℕ) (a b : Term) → nodes (meaning (made.Eq s a b)) ≡ term_nodes (term.meaning a) + term_nodes (term.meaning b) + 1
@@ -134,7 +133,7 @@ nodes_Ex s x a = ap nodes (meaning_Ex s x a)
 
 -- ---- height
 
-pub height_Pred : (p : List ℕ) (ts : Vec Term Global) → height (meaning (made.Pred p ts)) ≡ terms_height (terms (map term.meaning ts.items)) + 1
+pub height_Pred : (p : List ℕ) (ts : Vec Term Global) → height (meaning (made.Pred p ts)) ≡ terms_height (term.list_meaning ts.items) + 1
 height_Pred p ts = ap height (meaning_Pred p ts)
 
 pub height_Eq : (s : List ℕ) (a b : Term) → height (meaning (made.Eq s a b)) ≡ max (term_height (term.meaning a)) (term_height (term.meaning b)) + 1
@@ -157,7 +156,7 @@ height_Ex s x a = ap height (meaning_Ex s x a)
 
 -- ---- unnamed
 
-pub unnamed_Pred : (p : List ℕ) (ts : Vec Term Global) → unnamed (meaning (made.Pred p ts)) ≡ pred p (terms (map term.meaning ts.items))
+pub unnamed_Pred : (p : List ℕ) (ts : Vec Term Global) → unnamed (meaning (made.Pred p ts)) ≡ pred p (term.list_meaning ts.items)
 unnamed_Pred p ts = ap unnamed (meaning_Pred p ts)
 
 pub unnamed_Eq : (s : List ℕ) (a b : Term) → unnamed (meaning (made.Eq s a b)) ≡ equal s (term.meaning a) (term.meaning b)
@@ -187,5 +186,3 @@ pub ruleset replacements = (meanings, replace_Pred, replace_Eq, replace_And, rep
 pub ruleset sizes = (nodes_Pred, nodes_Eq, nodes_And, nodes_Or, nodes_Imp, nodes_All, nodes_Ex)
 
 pub ruleset heights = (height_Pred, height_Eq, height_And, height_Or, height_Imp, height_All, height_Ex)
-
-pub ruleset no_shift = (shift_none)

@@ -1,7 +1,8 @@
 //! Formulas.
-ghost use Rattle.std.specs.Prelude.{◌≡◌, ◌↔◌, ◌+◌, ◌≤◌, ◌<◌, ◌^◌, min, IfOk, IsTrue};
-ghost use Rattle.fol_theory.specs.Substitution.{lift, put, raise, replace, shift, shift_term, substitute};
-ghost use Rattle.fol_theory.specs.Measures.{nodes, height, reach, depth};
+ghost use Rattle.std.specs.Prelude.{◌≡◌, ◌↔◌, ◌+◌, ◌≤◌, ◌<◌, ◌^◌, min, max, IfOk, IsTrue};
+ghost use Rattle.fol_theory.specs.Syntax.{equal};
+ghost use Rattle.fol_theory.specs.Substitution.{lift, put, raise, replace, shift, shift_term, substitute, substitute_term};
+ghost use Rattle.fol_theory.specs.Measures.{nodes, height, reach, term_reach, depth};
 ghost use Rattle.fol_theory.specs.Printing.{Alike};
 ghost use Rattle.term_core.specs.Formula.{meaning};
 ghost use Rattle.term_core.specs.Term as term;
@@ -26,6 +27,7 @@ pub enum Formula {
 }
 
 impl Formula {
+    /// An equal formula, with names of its own, those that are printed too.
     #[cycle(copy)]
     #[tactic(auto, using(crate::proofs::Variants::meanings))]
     pub fn copy(&self) -> Result<Formula, NoMemory>
@@ -88,13 +90,13 @@ impl Formula {
 
     /// The formula with `value`, shifted under binders, for the variable `index`, and the greater variables
     /// lowered by 1.
-    #[tactic(auto, using(crate::proofs::Variants::no_shift))]
+    #[tactic(auto, using(crate::proofs::Applications::no_shift))]
     pub fn substitute(&self, index: u64, value: &Term) -> Result<Formula, NoMemory>
         requires index { index + depth (meaning self.now) < 2 ^ 64 }
         requires indices { reach (substitute index (term.meaning value.now) (meaning self.now)) ≤ 2 ^ 64 }
         ensures { IfOk result (λ a. meaning a ≡ substitute index (term.meaning value.now) (meaning self.now)) }
     {
-        Ok(self.put(index, value, 0)?)
+        self.put(index, value, 0)
     }
 
     /// The same under `binders` binders, which the value has to pass.
@@ -113,11 +115,7 @@ impl Formula {
                 p.copy()?,
                 put_all(ts, index, value, binders)?,
             )),
-            Formula::Eq(s, t, u) => Ok(Formula::Eq(
-                s.copy()?,
-                t.put(index, value, binders)?,
-                u.put(index, value, binders)?,
-            )),
+            Formula::Eq(s, t, u) => put_equation(s, t, u, index, value, binders),
             Formula::And(a, b) => Ok(Formula::And(
                 put_boxed(a, index, value, binders)?,
                 put_boxed(b, index, value, binders)?,
@@ -143,7 +141,7 @@ impl Formula {
         }
     }
 
-    /// Whether they are equal but for the names that are printed.
+    /// Whether they are equal but for the names that are printed, sorts among what is compared.
     #[tactic(auto, using(crate::proofs::Shapes::alike))]
     pub fn same(&self, other: &Formula) -> bool
         ensures { IsTrue result ↔ Alike (meaning self.now) (meaning other.now) }
@@ -166,10 +164,10 @@ impl Formula {
         }
     }
 
-    /// How many nodes there are, at most 2^32.
+    /// How many nodes there are; 2^32 stands for that many and for more.
     #[tactic(auto, using(crate::proofs::Variants::sizes))]
     pub fn size(&self) -> u64
-        ensures { result ≡ min (nodes (meaning self.now)) 4294967296 }
+        ensures { result ≡ min (nodes (meaning self.now)) (2 ^ 32) }
     {
         match self {
             Formula::True | Formula::False => 1,
@@ -182,10 +180,10 @@ impl Formula {
         }
     }
 
-    /// How many nodes stand on the longest way down, at most 2^32.
+    /// How many nodes stand on the longest way down; 2^32 stands for that many and for more.
     #[tactic(auto, using(crate::proofs::Variants::heights))]
     pub fn height(&self) -> u64
-        ensures { result ≡ min (height (meaning self.now)) 4294967296 }
+        ensures { result ≡ min (height (meaning self.now)) (2 ^ 32) }
     {
         match self {
             Formula::True | Formula::False => 1,
@@ -238,6 +236,25 @@ fn put_boxed(
     ensures { IfOk result (λ out. meaning out.value ≡ substitute index (shift_term 0 binders (term.meaning value.now)) (meaning a.now.value)) }
 {
     Ok(Box::new(*Box::allocator(a), a.put(index, value, binders)?)?)
+}
+
+#[tactic(auto, using(crate::proofs::Variants::meanings))]
+fn put_equation(
+    sort: &Name,
+    t: &Term,
+    u: &Term,
+    index: u64,
+    value: &Term,
+    binders: u64,
+) -> Result<Formula, NoMemory>
+    requires { max (term_reach (substitute_term index (shift_term 0 binders (term.meaning value.now)) (term.meaning t.now))) (term_reach (substitute_term index (shift_term 0 binders (term.meaning value.now)) (term.meaning u.now))) ≤ 2 ^ 64 }
+    ensures { IfOk result (λ a. meaning a ≡ equal sort.now (substitute_term index (shift_term 0 binders (term.meaning value.now)) (term.meaning t.now)) (substitute_term index (shift_term 0 binders (term.meaning value.now)) (term.meaning u.now))) }
+{
+    Ok(Formula::Eq(
+        sort.copy()?,
+        t.put(index, value, binders)?,
+        u.put(index, value, binders)?,
+    ))
 }
 
 /// The body of a binder, which is one binder more to pass.

@@ -10,12 +10,14 @@ use std::alloc::Global;
 use std::hash::{Hash, Hasher};
 use std::marker::Model;
 
-/// A name, of any bytes. Contracts see the list of them; two names are equal where their bytes are.
+/// A name, of any bytes. Contracts see the list of them; two names are equal where their bytes are, and have the
+/// same hash, so that a name serves as the key of a map.
 #[derive(Debug, Drop)]
 pub struct Name {
     bytes: Vec<u8>,
 }
 
+/// Names in order.
 pub type Names = Vec<Name>;
 
 impl Model for Name {
@@ -27,6 +29,7 @@ impl Model for Name {
 }
 
 impl Name {
+    /// A name of these bytes, which are copied.
     pub fn from_slice(alloc: Global, bytes: &[u8]) -> Result<Name, NoMemory>
         ensures { IfOk result (λ name. name ≡ bytes.now) }
     {
@@ -35,22 +38,26 @@ impl Name {
         })
     }
 
+    /// Its bytes.
     pub fn as_slice(&self) -> &[u8]
         ensures { result.now ≡ self.now }
     {
         self.bytes.as_slice()
     }
 
+    /// An equal name, with bytes of its own.
     pub fn copy(&self) -> Result<Name, NoMemory>
         ensures { IfOk result (λ name. name ≡ self.now) }
     {
         Name::from_slice(*self.bytes.allocator(), self.as_slice())
     }
 
+    /// Whether they are equal.
+    #[tactic(auto, using(crate::proofs::Keys::keys))]
     pub fn same(&self, other: &Name) -> bool
         ensures { IsTrue result ↔ (self.now ≡ other.now) }
     {
-        self.as_slice() == other.as_slice()
+        self == other
     }
 }
 

@@ -1,4 +1,7 @@
 //! Contexts and sequents.
+ghost use Rattle.std.specs.Prelude.{◌≡◌, ◌∷◌, ◌++◌, [], List};
+ghost use Rattle.term_core.specs.Sequent.{entry, entries, name, names};
+ghost use Rattle.term_core.specs.declared.sequent.Slot.{Slot};
 
 use crate::{Formula, Name};
 
@@ -19,3 +22,12 @@ pub struct Sequent {
     pub context: Context,
     pub goal: Formula,
 }
+
+/// How a list of slots, the oldest first, is a context of the theory, the newest first: a slot that is pushed is the
+/// newest entry, and a slot in the middle has the entries of the later ones before it and of the earlier ones behind.
+pub fn slots_are_entries()
+    ensures push { (slots : List Slot) (slot : Slot) → entries (slots ++ slot ∷ []) ≡ entry slot ∷ entries slots }
+    ensures append { (older newer : List Slot) → entries (older ++ newer) ≡ entries newer ++ entries older }
+    ensures place { (older newer : List Slot) (slot : Slot) → entries (older ++ slot ∷ newer) ≡ entries newer ++ entry slot ∷ entries older }
+    ensures names { (older newer : List Slot) → names (older ++ newer) ≡ names older ++ names newer }
+{}

@@ -1,26 +1,29 @@
 //! Terms.
-ghost use Rattle.std.specs.Prelude.{◌≡◌, ◌↔◌, ◌≤◌, ◌^◌, map, min, IfOk, IsTrue};
-ghost use Rattle.fol_theory.specs.Syntax.{terms, var};
-ghost use Rattle.fol_theory.specs.Substitution.{replace_term, replace_terms, raise, put, shift_term, substitute_term};
+ghost use Rattle.std.specs.Prelude.{◌≡◌, ◌↔◌, ◌<◌, ◌≤◌, ◌^◌, min, IfOk, IsTrue};
+ghost use Rattle.fol_theory.specs.Syntax.{var};
+ghost use Rattle.fol_theory.specs.Substitution.{replace_terms, raise, put, shift_term, substitute_term};
 ghost use Rattle.fol_theory.specs.Measures.{term_nodes, terms_nodes, term_height, terms_height, term_reach, terms_reach};
-ghost use Rattle.term_core.specs.Term.{meaning};
+ghost use Rattle.term_core.specs.Term.{meaning, list_meaning};
 
 use crate::Name;
 use base_core::NoMemory;
 
-/// A variable counts the binders between it and its own, then the variables of the context from the newest on.
+/// A variable counts the binders between it and its own, then the variables of the context from the newest on. An
+/// application has the name of its function and the arguments.
 #[derive(Drop)]
 pub enum Term {
     Var(u64),
     App(Name, Terms),
 }
 
+/// The arguments of a function or a predicate, in order.
 pub type Terms = Vec<Term>;
 
 /// Where `size` and `height` stop: this stands for itself and everything above.
 pub(crate) const LIMIT: u64 = 1 << 32;
 
 impl Term {
+    /// An equal term, with names of its own.
     #[cycle(copy)]
     pub fn copy(&self) -> Result<Term, NoMemory>
         ensures { IfOk result (λ t. meaning t ≡ meaning self.now) }
@@ -31,7 +34,7 @@ impl Term {
         }
     }
 
-    /// The term with each variable from `from` on greater by `by`.
+    /// The term with each variable that is at least `from` greater by `by`. A term has no binders.
     #[cycle(shift)]
     #[tactic(auto, using(crate::proofs::Applications::applications))]
     pub fn shift(&self, from: u64, by: u64) -> Result<Term, NoMemory>
@@ -47,17 +50,16 @@ impl Term {
     /// The term with `value` for the variable `index`, and the greater variables lowered by 1.
     #[tactic(auto, using(crate::proofs::Applications::no_shift))]
     pub fn substitute(&self, index: u64, value: &Term) -> Result<Term, NoMemory>
-        requires { term_reach (substitute_term index (meaning value.now) (meaning self.now)) ≤ 2 ^ 64 }
         ensures { IfOk result (λ t. meaning t ≡ substitute_term index (meaning value.now) (meaning self.now)) }
     {
-        Ok(self.put(index, value, 0)?)
+        self.put(index, value, 0)
     }
 
     /// The same under `binders` binders of a formula, which the value has to pass.
     #[cycle(put)]
     #[tactic(auto, using(crate::proofs::Applications::applications))]
     pub(crate) fn put(&self, index: u64, value: &Term, binders: u64) -> Result<Term, NoMemory>
-        requires { term_reach (substitute_term index (shift_term 0 binders (meaning value.now)) (meaning self.now)) ≤ 2 ^ 64 }
+        requires { 0 < binders → term_reach (substitute_term index (shift_term 0 binders (meaning value.now)) (meaning self.now)) ≤ 2 ^ 64 }
         ensures { IfOk result (λ t. meaning t ≡ substitute_term index (shift_term 0 binders (meaning value.now)) (meaning self.now)) }
     {
         match self {
@@ -65,7 +67,7 @@ impl Term {
                 if *i < index {
                     Ok(Term::Var(*i))
                 } else if *i == index {
-                    value.shift(0, binders)
+                    shift_value(value, binders)
                 } else {
                     Ok(Term::Var(*i - 1))
                 }
@@ -87,11 +89,11 @@ impl Term {
         }
     }
 
-    /// How many nodes there are, at most 2^32.
+    /// How many nodes there are; 2^32 stands for that many and for more.
     #[cycle(size)]
     #[tactic(auto, using(crate::proofs::Applications::term_measures))]
     pub fn size(&self) -> u64
-        ensures { result ≡ min (term_nodes (meaning self.now)) 4294967296 }
+        ensures { result ≡ min (term_nodes (meaning self.now)) (2 ^ 32) }
     {
         match self {
             Term::Var(_) => 1,
@@ -99,11 +101,11 @@ impl Term {
         }
     }
 
-    /// How many nodes stand on the longest way down, at most 2^32.
+    /// How many nodes stand on the longest way down; 2^32 stands for that many and for more.
     #[cycle(height)]
     #[tactic(auto, using(crate::proofs::Applications::term_measures))]
     pub fn height(&self) -> u64
-        ensures { result ≡ min (term_height (meaning self.now)) 4294967296 }
+        ensures { result ≡ min (term_height (meaning self.now)) (2 ^ 32) }
     {
         match self {
             Term::Var(_) => 1,
@@ -114,9 +116,9 @@ impl Term {
 
 #[cycle(copy)]
 pub(crate) fn copy_all(ts: &Terms) -> Result<Terms, NoMemory>
-    ensures { IfOk result (λ copy. map meaning copy.items ≡ map meaning ts.now.items) }
+    ensures { IfOk result (λ copy. list_meaning copy.items ≡ list_meaning ts.now.items) }
 {
-    let mut copy = Vec::new(*ts.allocator());
+    let mut copy = Vec::with_capacity(*ts.allocator(), ts.len())?;
     for t in ts {
         copy.push(t.copy()?)?;
     }
@@ -133,22 +135,35 @@ fn shift_index(i: u64, from: u64, by: u64) -> u64
 
 #[cycle(shift)]
 pub(crate) fn shift_all(ts: &Terms, from: u64, by: u64) -> Result<Terms, NoMemory>
-    requires { terms_reach (replace_terms (raise from by) (terms (map meaning ts.now.items))) ≤ 2 ^ 64 }
-    ensures { IfOk result (λ out. map meaning out.items ≡ map (replace_term (raise from by)) (map meaning ts.now.items)) }
+    requires { terms_reach (replace_terms (raise from by) (list_meaning ts.now.items)) ≤ 2 ^ 64 }
+    ensures { IfOk result (λ out. list_meaning out.items ≡ replace_terms (raise from by) (list_meaning ts.now.items)) }
 {
-    let mut shifted = Vec::new(*ts.allocator());
+    let mut shifted = Vec::with_capacity(*ts.allocator(), ts.len())?;
     for t in ts {
         shifted.push(t.shift(from, by)?)?;
     }
     Ok(shifted)
 }
 
+/// The value as it stands under binders. At none it is copied, so that no index can pass.
+#[tactic(auto, using(crate::proofs::Applications::no_shift))]
+fn shift_value(value: &Term, binders: u64) -> Result<Term, NoMemory>
+    requires { 0 < binders → term_reach (shift_term 0 binders (meaning value.now)) ≤ 2 ^ 64 }
+    ensures { IfOk result (λ t. meaning t ≡ shift_term 0 binders (meaning value.now)) }
+{
+    if binders == 0 {
+        value.copy()
+    } else {
+        value.shift(0, binders)
+    }
+}
+
 #[cycle(put)]
 pub(crate) fn put_all(ts: &Terms, index: u64, value: &Term, binders: u64) -> Result<Terms, NoMemory>
-    requires { terms_reach (replace_terms (put index (shift_term 0 binders (meaning value.now))) (terms (map meaning ts.now.items))) ≤ 2 ^ 64 }
-    ensures { IfOk result (λ out. map meaning out.items ≡ map (replace_term (put index (shift_term 0 binders (meaning value.now)))) (map meaning ts.now.items)) }
+    requires { 0 < binders → terms_reach (replace_terms (put index (shift_term 0 binders (meaning value.now))) (list_meaning ts.now.items)) ≤ 2 ^ 64 }
+    ensures { IfOk result (λ out. list_meaning out.items ≡ replace_terms (put index (shift_term 0 binders (meaning value.now))) (list_meaning ts.now.items)) }
 {
-    let mut replaced = Vec::new(*ts.allocator());
+    let mut replaced = Vec::with_capacity(*ts.allocator(), ts.len())?;
     for t in ts {
         replaced.push(t.put(index, value, binders)?)?;
     }
@@ -157,7 +172,7 @@ pub(crate) fn put_all(ts: &Terms, index: u64, value: &Term, binders: u64) -> Res
 
 #[cycle(same)]
 pub(crate) fn same_all(xs: &[Term], ys: &[Term]) -> bool
-    ensures { IsTrue result ↔ (map meaning xs.now ≡ map meaning ys.now) }
+    ensures { IsTrue result ↔ (list_meaning xs.now ≡ list_meaning ys.now) }
 {
     if xs.len() != ys.len() {
         return false;
@@ -172,7 +187,7 @@ pub(crate) fn same_all(xs: &[Term], ys: &[Term]) -> bool
 
 #[cycle(size)]
 pub(crate) fn size_of_all(ts: &[Term]) -> u64
-    ensures { result ≡ min (terms_nodes (terms (map meaning ts.now))) 4294967296 }
+    ensures { result ≡ min (terms_nodes (list_meaning ts.now)) (2 ^ 32) }
 {
     let mut size: u64 = 0;
     for t in ts {
@@ -183,7 +198,7 @@ pub(crate) fn size_of_all(ts: &[Term]) -> u64
 
 #[cycle(height)]
 pub(crate) fn height_of_all(ts: &[Term]) -> u64
-    ensures { result ≡ min (terms_height (terms (map meaning ts.now))) 4294967296 }
+    ensures { result ≡ min (terms_height (list_meaning ts.now)) (2 ^ 32) }
 {
     let mut height: u64 = 0;
     for t in ts {

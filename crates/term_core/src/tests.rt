@@ -1,12 +1,10 @@
 //! What no clause says: small formulas typed by hand, large ones, and each call with ample memory.
 ghost use Rattle.std.specs.Prelude.{◌≤◌, IsTrue};
-ghost use Rattle.fol_theory.specs.Syntax.{terms};
 ghost use Rattle.fol_theory.specs.Measures.{reach, term_reach, terms_reach};
-ghost use Rattle.std.specs.Prelude.{map};
 ghost use Rattle.term_core.specs.Formula.{meaning};
 ghost use Rattle.term_core.specs.Term as term;
 
-use crate::{Formula, Name, Term};
+use crate::{Formula, Name, Term, Terms};
 use base_core::NoMemory;
 use std::alloc::Global;
 use std::process::Abort;
@@ -19,16 +17,29 @@ fn name(alloc: Global, text: &str) -> Result<Name, NoMemory> {
     Name::from_slice(alloc, text.as_bytes())
 }
 
+fn predicate(alloc: Global, text: &str, arguments: Terms) -> Result<Formula, NoMemory> {
+    Ok(Formula::Pred(name(alloc, text)?, arguments))
+}
+
 /// The predicate `p` of a term.
 fn p(alloc: Global, t: Term) -> Result<Formula, NoMemory> {
-    let name = name(alloc, "p")?;
-    Ok(Formula::Pred(name, vec![in alloc; t]?))
+    predicate(alloc, "p", vec![in alloc; t]?)
+}
+
+/// `f` of two terms.
+fn f(alloc: Global, t: Term, u: Term) -> Result<Term, NoMemory> {
+    let name = name(alloc, "f")?;
+    Ok(Term::App(name, vec![in alloc; t, u]?))
 }
 
 /// `f` of two variables.
-fn f(alloc: Global, i: u64, j: u64) -> Result<Term, NoMemory> {
-    let name = name(alloc, "f")?;
-    Ok(Term::App(name, vec![in alloc; Term::Var(i), Term::Var(j)]?))
+fn f_of(alloc: Global, i: u64, j: u64) -> Result<Term, NoMemory> {
+    f(alloc, Term::Var(i), Term::Var(j))
+}
+
+/// An equation of a variable and `f` of two.
+fn equation(alloc: Global, sort: &str, i: u64, j: u64, k: u64) -> Result<Formula, NoMemory> {
+    Ok(Formula::Eq(name(alloc, sort)?, Term::Var(i), f_of(alloc, j, k)?))
 }
 
 fn pair(alloc: Global, sign: u8, a: Formula, b: Formula) -> Result<Formula, NoMemory> {
@@ -41,23 +52,32 @@ fn pair(alloc: Global, sign: u8, a: Formula, b: Formula) -> Result<Formula, NoMe
     })
 }
 
+/// `A` and `E` bind a variable `x` of the sort `nat`, `B` one that is printed as `y`, `C` one of another sort.
 fn bind(alloc: Global, sign: u8, a: Formula) -> Result<Formula, NoMemory> {
     let a = Box::new(alloc, a)?;
-    let sort = name(alloc, "nat")?;
-    let printed = name(alloc, "x")?;
+    let sort = name(alloc, if sign == b'C' { "set" } else { "nat" })?;
+    let printed = name(alloc, if sign == b'B' { "y" } else { "x" })?;
     Ok(match sign {
-        b'A' => Formula::All(sort, printed, a),
-        _ => Formula::Ex(sort, printed, a),
+        b'E' => Formula::Ex(sort, printed, a),
+        _ => Formula::All(sort, printed, a),
     })
 }
 
-/// A digit is `p` of that variable, and `a`, `b` and `c` are `p` of f(0, 3), f(1, 4) and f(2, 5).
+/// A digit is `p` of that variable, and `a`, `b` and `c` are `p` of f(0, 3), f(1, 4) and f(2, 5). `p` has two
+/// arguments at `d`, and `e` is another predicate. `=` is 1 = f(0, 2), `s` the same at another sort, `t` is
+/// 3 = f(0, 4), and `u` is f(0, 3) = f(0, 1).
 fn leaf(alloc: Global, sign: u8) -> Result<Formula, NoMemory> {
     match sign {
         b'0'..=b'9' => p(alloc, Term::Var(u64::from(sign - b'0'))),
-        b'a' => p(alloc, f(alloc, 0, 3)?),
-        b'b' => p(alloc, f(alloc, 1, 4)?),
-        b'c' => p(alloc, f(alloc, 2, 5)?),
+        b'a' => p(alloc, f_of(alloc, 0, 3)?),
+        b'b' => p(alloc, f_of(alloc, 1, 4)?),
+        b'c' => p(alloc, f_of(alloc, 2, 5)?),
+        b'd' => predicate(alloc, "p", vec![in alloc; Term::Var(0), Term::Var(0)]?),
+        b'e' => predicate(alloc, "q", vec![in alloc; Term::Var(0)]?),
+        b'=' => equation(alloc, "nat", 1, 0, 2),
+        b's' => equation(alloc, "set", 1, 0, 2),
+        b't' => equation(alloc, "nat", 3, 0, 4),
+        b'u' => Ok(Formula::Eq(name(alloc, "nat")?, f_of(alloc, 0, 3)?, f_of(alloc, 0, 1)?)),
         b'F' => Ok(Formula::False),
         _ => Ok(Formula::True),
     }
@@ -71,7 +91,7 @@ fn take_sign(alloc: Global, sign: u8, stack: &mut Vec<Formula>) -> Result<Formul
             let a = stack.pop().unwrap_or(Formula::True);
             pair(alloc, sign, a, b)
         }
-        b'A' | b'E' => bind(alloc, sign, stack.pop().unwrap_or(Formula::True)),
+        b'A' | b'B' | b'C' | b'E' => bind(alloc, sign, stack.pop().unwrap_or(Formula::True)),
         _ => leaf(alloc, sign),
     }
 }
@@ -98,7 +118,7 @@ fn is_term_within(t: &Term, bound: u64) -> bool
 
 #[cycle(within)]
 fn are_terms_within(ts: &[Term], bound: u64) -> bool
-    ensures { IsTrue result → terms_reach (terms (map term.meaning ts.now)) ≤ bound }
+    ensures { IsTrue result → terms_reach (term.list_meaning ts.now) ≤ bound }
 {
     for t in ts {
         if !is_term_within(t, bound) {
@@ -160,7 +180,7 @@ fn is_substituted(
 ) -> Result<bool, NoMemory> {
     let a = read(rt.alloc(), text)?;
     let want = read(rt.alloc(), want)?;
-    let value = f(rt.alloc(), 0, 3)?;
+    let value = f_of(rt.alloc(), 0, 3)?;
     Ok(substitute(rt, &a, 1, &value)?.same(&want))
 }
 
@@ -177,6 +197,7 @@ fn answers_the_table(rt: HostRuntime) -> Result<(), Fail> {
         (b"0", b"0", b"0", (2, 2)),
         (b"1", b"3", b"a", (2, 2)),
         (b"2", b"4", b"1", (2, 2)),
+        (b"=", b"t", b"u", (5, 3)),
         (b"1A", b"1A", b"1A", (3, 3)),
         (b"02&E", b"04&E", b"0b&E", (6, 4)),
         (b"35F|>EA", b"57F|>EA", b"c4F|>EA", (9, 6)),
@@ -185,6 +206,76 @@ fn answers_the_table(rt: HostRuntime) -> Result<(), Fail> {
         assert!(rt; is_substituted(&rt, text, substituted)?, "{text:?}");
         assert_eq!(rt; measures(rt.alloc(), text)?, want, "{text:?}");
     }
+    Ok(())
+}
+
+fn is_same(alloc: Global, text: &[u8], other: &[u8]) -> Result<bool, NoMemory> {
+    Ok(read(alloc, text)?.same(&read(alloc, other)?))
+}
+
+#[test]
+fn tells_formulas_apart(rt: HostRuntime) -> Result<(), Fail> {
+    for (text, other, want) in [
+        (b"T".as_slice(), b"T".as_slice(), true),
+        (b"T", b"F", false),
+        (b"0", b"1", false),
+        (b"0", b"a", false),
+        (b"0", b"d", false),
+        (b"0", b"e", false),
+        (b"=", b"=", true),
+        (b"=", b"s", false),
+        (b"=", b"t", false),
+        (b"01&", b"01&", true),
+        (b"01&", b"10&", false),
+        (b"01&", b"01|", false),
+        (b"01|", b"01>", false),
+        (b"0A", b"0B", true),
+        (b"0A", b"0C", false),
+        (b"0A", b"0E", false),
+        (b"0A1&E", b"0B1&E", true),
+    ] {
+        assert_eq!(rt;
+            is_same(rt.alloc(), text, other)?,
+            want,
+            "{text:?} {other:?}"
+        );
+        assert_eq!(rt;
+            is_same(rt.alloc(), other, text)?,
+            want,
+            "{other:?} {text:?}"
+        );
+    }
+    Ok(())
+}
+
+#[test]
+fn serves_terms(rt: HostRuntime) -> Result<(), Fail> {
+    let t = f_of(rt.alloc(), 1, 2)?;
+    let value = f_of(rt.alloc(), 0, 3)?;
+    assert!(rt; t.copy()?.same(&t));
+    assert!(rt; !t.same(&value));
+    assert!(rt; !t.same(&Term::Var(1)));
+    assert_eq!(rt; (t.size(), t.height()), (3, 2));
+    let replaced = t.substitute(1, &value)?;
+    let want = f(rt.alloc(), value, Term::Var(1))?;
+    assert!(rt; replaced.same(&want));
+    assert_eq!(rt; (want.size(), want.height()), (5, 3));
+    let last = Term::Var(u64::MAX);
+    assert!(rt;
+        t.substitute(2, &last)?
+            .same(&f_of(rt.alloc(), 1, u64::MAX)?)
+    );
+    Ok(())
+}
+
+/// The bytes of a copy.
+#[test]
+fn keeps_names(rt: HostRuntime) -> Result<(), Fail> {
+    let name = name(rt.alloc(), "plus")?;
+    let copy = name.copy()?;
+    assert_eq!(rt; copy.as_slice(), b"plus".as_slice());
+    assert!(rt; copy.same(&name));
+    assert!(rt; copy == name);
     Ok(())
 }
 

@@ -1,5 +1,6 @@
 use Rattle.std.proofs.Common.{refl}
 use Rattle.fol_theory.proofs.Entries as entries
+use Rattle.fol_theory.proofs.Numbers as numbers
 use Rattle.fol_theory.proofs.contexts.contexts_grow_and_shrink.Goals as goal
 
 pub returns-clause-variable_variables : goal.returns-clause-variable_variables
@@ -25,3 +26,18 @@ returns-clause-count c = entries.count_hypotheses
 
 pub returns-clause-numbered : goal.returns-clause-numbered
 returns-clause-numbered c = λ d i a. (entries.hypothesis_is d i a, entries.is_hypothesis d i a)
+
+pub returns-clause-numbered_once : goal.returns-clause-numbered_once
+returns-clause-numbered_once c = numbers.hypothesis_once
+
+pub returns-clause-numbered_below : goal.returns-clause-numbered_below
+returns-clause-numbered_below c = numbers.hypothesis_below
+
+pub returns-clause-numbered_all : goal.returns-clause-numbered_all
+returns-clause-numbered_all c = numbers.hypothesis_there
+
+pub returns-clause-placed : goal.returns-clause-placed
+returns-clause-placed c = numbers.hypothesis_placed
+
+pub returns-clause-without_placed : goal.returns-clause-without_placed
+returns-clause-without_placed c = numbers.without_placed

@@ -1,6 +1,9 @@
 use Rattle.fol_theory.proofs.Names as names
 use Rattle.fol_theory.proofs.printing.printing_names_change_nothing.Goals as goal
 
+pub returns-clause-twice : goal.returns-clause-twice
+returns-clause-twice c = names.unnamed_twice
+
 pub returns-clause-unnamed : goal.returns-clause-unnamed
 returns-clause-unnamed c = names.unnamed_replace
 

@@ -40,3 +40,21 @@ returns-clause-next c = indices.next_raise
 
 pub returns-clause-first : goal.returns-clause-first
 returns-clause-first c = indices.first_put
+
+pub returns-clause-shift_all : goal.returns-clause-shift_all
+returns-clause-shift_all c = indices.shift_all
+
+pub returns-clause-shift_ex : goal.returns-clause-shift_ex
+returns-clause-shift_ex c = indices.shift_ex
+
+pub returns-clause-substitute_all : goal.returns-clause-substitute_all
+returns-clause-substitute_all c = indices.substitute_all
+
+pub returns-clause-substitute_ex : goal.returns-clause-substitute_ex
+returns-clause-substitute_ex c = indices.substitute_ex
+
+pub returns-clause-each : goal.returns-clause-each
+returns-clause-each c = laws.replace_each
+
+pub returns-clause-terms_injective : goal.returns-clause-terms_injective
+returns-clause-terms_injective c = laws.terms_injective
