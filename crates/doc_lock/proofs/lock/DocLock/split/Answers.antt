@@ -1,0 +1,10 @@
+use Rattle.std.proofs.Common.{rules}
+use Rattle.doc_lock.proofs.Splitting.{splits}
+use Rattle.doc_lock.proofs.lock.DocLock.split.Goals as goal
+
+pub split_seat-place-requires : goal.split_seat-place-requires
+split_seat-place-requires g c = (
+  search rules,
+  search rules,
+  splits g.S.Standing.list g.S.Standing.author g.S.Standing.origin _ _ c.args.seat.now.numbered.2 c.requires.first.0 c.args.seat.now.begun,
+)

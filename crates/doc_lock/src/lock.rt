@@ -1,0 +1,84 @@
+//! The lock, its seats and its holdings.
+ghost use Rattle.std.specs.Prelude.{◌≡◌, ◌≢◌, ℕ, true, false, [], ◌∷◌, None};
+
+use crate::plays::Rule;
+use crate::standing::Standing;
+use crate::view::View;
+use atomic_table::{Shared, Table};
+use std::alloc::Global;
+use std::marker::PhantomData;
+
+mod crossing;
+mod first;
+mod holder;
+mod lends;
+mod seated;
+
+pub use crossing::lock_and_seats_cross_threads;
+
+/// The words of the table: the flag, 0 or one more than the number of the seat that has the lock,
+const FLAG: usize = 0;
+
+/// and the length of the list.
+const LENGTH: usize = 1;
+
+/// The one slot, where the state is at home.
+const STATE: usize = 0;
+
+pub(crate) type TableOf<S> = Table<
+    Option<S>,
+    View<<S as Standing>::Entry, <S as Standing>::Origin>,
+    (),
+    Rule<S>,
+    Global,
+>;
+
+pub(crate) type SharedOf<S> = Shared<
+    Option<S>,
+    View<<S as Standing>::Entry, <S as Standing>::Origin>,
+    (),
+    Rule<S>,
+>;
+
+pub(crate) type PlaceOf<S> = atomic_table::Seat<
+    Option<S>,
+    View<<S as Standing>::Entry, <S as Standing>::Origin>,
+>;
+
+/// A lock over one state. Threads share it by a `&`, where the state may be sent.
+pub struct DocLock<S: Standing> {
+    table: TableOf<S>,
+    seats: u32,
+    ghost sized: { (table.shared.table_id.words ≡ 2) × (table.shared.table_id.slots ≡ 1) },
+}
+
+/// A seat at the lock of a state `S` with entries `E` and an origin `O`. It can't be let go: it is joined into
+/// another seat, or closes the lock.
+pub struct SeatOf<S, E, O> {
+    number: u32,
+    made: u32,
+    place: atomic_table::Seat<Option<S>, View<E, O>>,
+    ghost numbered: { (place.me.0.number ≡ number) × (place.me.0.made ≡ made) × (place.me.0.live ≡ true) },
+    ghost begun: { place.me.0.origin ≢ None },
+    ghost free: { place.me.0.holds ≡ false → place.me.1 ≡ [] },
+    ghost holding: { place.me.0.holds ≡ true → place.me.1 ≡ (0, None) ∷ [] },
+}
+
+/// A seat at the lock of a state.
+pub type Seat<S> = SeatOf<S, <S as Standing>::Entry, <S as Standing>::Origin>;
+
+/// A holding: the state, out of the lock. It can't be let go: it is given back.
+pub struct Held<'a, S: Standing> {
+    lock: &'a DocLock<S>,
+    state: S,
+    // Without a `&mut` among the types of the fields the clause of `state` gets no proof.
+    mark: PhantomData<&'a mut u8>,
+}
+
+/// What one try of the flag comes to.
+pub enum Tried<'a, S: Standing> {
+    /// The seat has the state.
+    Held(Held<'a, S>),
+    /// Another seat had the lock.
+    Busy,
+}

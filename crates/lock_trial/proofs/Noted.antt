@@ -1,0 +1,22 @@
+-- What a note adds to the list, and to the entries of its seat.
+use Rattle.std.proofs.Common.{◌≡◌, ℕ, Result, Ok, Err, MatchResult, List, [], ◌∷◌, ◌++◌, refl, sym, ap, ◌∙◌}
+use Rattle.std.proofs.lemmas.List.{append-nil}
+use Rattle.doc_lock.specs.Lists.{only, Adds}
+use Rattle.doc_lock.proofs.Lists.{adds_own}
+use Rattle.lock_trial.specs.declared.notes.Note.{Note}
+use Rattle.lock_trial.specs.Noting.{note}
+
+abbrev by : Note → ℕ
+by e = e.by
+
+abbrev one_more : (n what : ℕ) (log now : List Note) → now ≡ log ++ note n what ∷ [] → Adds by n log now
+one_more n what log now more = (note n what ∷ [], more, (refl, tt))
+
+pub adds_noted : {A B : Type 0} (r : Result A B) (n what : ℕ) (log now : List Note) → MatchResult r (λ _. now ≡ log ++ note n what ∷ []) (λ _. now ≡ log) → Adds by n log now
+adds_noted (Ok _) n what log now more = one_more n what log now more
+adds_noted (Err _) n what log now same = ([], same ∙ sym (append-nil log), tt)
+
+pub mine_grows : {A B : Type 0} (r : Result A B) (n what : ℕ) (log now mine mine' : List Note) → only by n log ≡ mine → mine' ≡ only by n now
+    → MatchResult r (λ _. now ≡ log ++ note n what ∷ []) (λ _. now ≡ log) → MatchResult r (λ _. mine' ≡ mine ++ note n what ∷ []) (λ _. mine' ≡ mine)
+mine_grows (Ok _) n what log now mine mine' own is more = is ∙ (adds_own by n log now (one_more n what log now more) ∙ ap (λ l. l ++ note n what ∷ []) own)
+mine_grows (Err _) n what log now mine mine' own is same = is ∙ (ap (only by n) same ∙ own)
