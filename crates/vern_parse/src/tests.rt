@@ -1,0 +1,522 @@
+//! Sentences with their trees or faults, typed from the grammar's table.
+ghost use Rattle.std.specs.Prelude.{All, IfOk};
+ghost use Rattle.vern_lex.specs.Tokens.{IsTokenOf};
+
+use crate::{ParseFault, RawExpr, RawGroup, RawName, RawOp, Shape, Span, expression, shape};
+use base_core::NoMemory;
+use std::alloc::{AllocGlobal, Global};
+use std::process::Abort;
+use std::test::Fail;
+use vern_lex::{Tokens, tokens, tokens_are_slices};
+
+/// Each name has its span behind it, and each other tree stands in parentheses: `(a[0-1] -> b[5-6])[0-6]`.
+const EXPRESSIONS_1: [(&str, &str); 20] = [
+    ("True", "True[0-4]"),
+    ("False", "False[0-5]"),
+    ("a", "a[0-1]"),
+    (" (* c *) a ", "a[9-10]"),
+    ("((a))", "a[2-3]"),
+    ("f x", "(f[0-1] x[2-3])[0-3]"),
+    ("f (g x) y", "(f[0-1] (g[3-4] x[5-6])[3-6] y[8-9])[0-9]"),
+    ("(f x)", "(f[1-2] x[3-4])[1-4]"),
+    ("f (x)", "(f[0-1] x[3-4])[0-5]"),
+    ("f (a -> b)", "(f[0-1] (a[3-4] -> b[8-9])[3-9])[0-10]"),
+    ("(a) /\\ b", "(a[1-2] /\\ b[7-8])[0-8]"),
+    ("a /\\ (b)", "(a[0-1] /\\ b[6-7])[0-8]"),
+    ("(a /\\ b)", "(a[1-2] /\\ b[6-7])[1-7]"),
+    (
+        "(a -> b) -> c",
+        "((a[1-2] -> b[6-7])[1-7] -> c[12-13])[0-13]",
+    ),
+    (
+        "a -> (b -> c)",
+        "(a[0-1] -> (b[6-7] -> c[11-12])[6-12])[0-13]",
+    ),
+    ("~ a", "(~ a[2-3])[0-3]"),
+    ("~ ~ a", "(~ (~ a[4-5])[2-5])[0-5]"),
+    ("~ (a)", "(~ a[3-4])[0-5]"),
+    ("(~ a) = b", "((~ a[3-4])[1-4] = b[8-9])[0-9]"),
+    (
+        "f x = g y",
+        "((f[0-1] x[2-3])[0-3] = (g[6-7] y[8-9])[6-9])[0-9]",
+    ),
+];
+
+const EXPRESSIONS_2: [(&str, &str); 20] = [
+    (
+        "forall x : T, a",
+        "(forall x[7-8] : T[11-12], a[14-15])[0-15]",
+    ),
+    (
+        "exists x y : T, a",
+        "(exists x[7-8] y[9-10] : T[13-14], a[16-17])[0-17]",
+    ),
+    (
+        "forall (x y : T) (z : U), a",
+        "(forall x[8-9] y[10-11] : T[14-15], z[18-19] : U[22-23], a[26-27])[0-27]",
+    ),
+    (
+        "(forall x : T, a) -> b",
+        "((forall x[8-9] : T[12-13], a[15-16])[1-16] -> b[21-22])[0-22]",
+    ),
+    (
+        "a = forall x : T, b",
+        "(a[0-1] = (forall x[11-12] : T[15-16], b[18-19])[4-19])[0-19]",
+    ),
+    (
+        "~ forall x : T, a /\\ b",
+        "(~ (forall x[9-10] : T[13-14], (a[16-17] /\\ b[21-22])[16-22])[2-22])[0-22]",
+    ),
+    (
+        "a /\\ forall x : T, b -> c",
+        "(a[0-1] /\\ (forall x[12-13] : T[16-17], (b[19-20] -> c[24-25])[19-25])[5-25])[0-25]",
+    ),
+    (
+        "~ forall x : T, a <-> b <-> c",
+        "((~ (forall x[9-10] : T[13-14], (a[16-17] <-> b[22-23])[16-23])[2-23])[0-23] <-> c[28-29])[0-29]",
+    ),
+    (
+        "a = forall x : T, b <-> c <-> d",
+        "((a[0-1] = (forall x[11-12] : T[15-16], (b[18-19] <-> c[24-25])[18-25])[4-25])[0-25] <-> d[30-31])[0-31]",
+    ),
+    (
+        "forall x : T, exists y : T, a",
+        "(forall x[7-8] : T[11-12], (exists y[21-22] : T[25-26], a[28-29])[14-29])[0-29]",
+    ),
+    ("_ intro Lemma", "(_[0-1] intro[2-7] Lemma[8-13])[0-13]"),
+    ("~ a -> b", "((~ a[2-3])[0-3] -> b[7-8])[0-8]"),
+    ("~ a <-> b", "((~ a[2-3])[0-3] <-> b[8-9])[0-9]"),
+    ("~ a \\/ b", "((~ a[2-3])[0-3] \\/ b[7-8])[0-8]"),
+    ("~ a /\\ b", "((~ a[2-3])[0-3] /\\ b[7-8])[0-8]"),
+    ("~ a = b", "(~ (a[2-3] = b[6-7])[2-7])[0-7]"),
+    ("~ a <> b", "(~ (a[2-3] <> b[7-8])[2-8])[0-8]"),
+    ("a -> ~ b", "(a[0-1] -> (~ b[7-8])[5-8])[0-8]"),
+    ("a <-> ~ b", "(a[0-1] <-> (~ b[8-9])[6-9])[0-9]"),
+    ("a \\/ ~ b", "(a[0-1] \\/ (~ b[7-8])[5-8])[0-8]"),
+];
+
+const EXPRESSIONS_3: [(&str, &str); 20] = [
+    ("a /\\ ~ b", "(a[0-1] /\\ (~ b[7-8])[5-8])[0-8]"),
+    ("a <> ~ b", "at 5"),
+    (
+        "a -> forall x : T, b",
+        "(a[0-1] -> (forall x[12-13] : T[16-17], b[19-20])[5-20])[0-20]",
+    ),
+    (
+        "a <-> forall x : T, b",
+        "(a[0-1] <-> (forall x[13-14] : T[17-18], b[20-21])[6-21])[0-21]",
+    ),
+    (
+        "a \\/ exists x : T, b",
+        "(a[0-1] \\/ (exists x[12-13] : T[16-17], b[19-20])[5-20])[0-20]",
+    ),
+    (
+        "a <> forall x : T, b",
+        "(a[0-1] <> (forall x[12-13] : T[16-17], b[19-20])[5-20])[0-20]",
+    ),
+    (
+        "~ forall x : T, a -> b",
+        "(~ (forall x[9-10] : T[13-14], (a[16-17] -> b[21-22])[16-22])[2-22])[0-22]",
+    ),
+    (
+        "~ forall x : T, a = b",
+        "(~ (forall x[9-10] : T[13-14], (a[16-17] = b[20-21])[16-21])[2-21])[0-21]",
+    ),
+    ("~ forall x : T, a = b = c", "at 22"),
+    ("a <-> forall x : T, b <-> c <-> d", "at 28"),
+    ("", "at 0"),
+    ("a -> b /\\ .", "at 10"),
+    ("a -> b /\\", "at 9"),
+    (")", "at 0"),
+    ("()", "at 1"),
+    ("(a", "at 2"),
+    ("a)", "at 1"),
+    ("(a))", "at 3"),
+    ("(a) b", "at 4"),
+    ("True x", "at 5"),
+];
+
+const EXPRESSIONS_4: [(&str, &str); 20] = [
+    ("(a) (b)", "at 4"),
+    ("f (x) (", "at 7"),
+    ("-> a", "at 0"),
+    ("a b -> ~ = c", "at 9"),
+    ("a = ~ b", "at 4"),
+    ("a : b", "at 2"),
+    ("a , b", "at 2"),
+    ("Set", "at 0"),
+    ("Prop", "at 0"),
+    ("a -> Prop", "at 5"),
+    ("a in b", "at 2"),
+    ("a. b", "at 1"),
+    ("forall , a", "at 7"),
+    ("forall x, a", "at 8"),
+    ("forall x : , a", "at 11"),
+    ("forall x : T U, a", "at 13"),
+    ("forall x (y : T), a", "at 9"),
+    ("forall () , a", "at 8"),
+    ("forall (x : T) y : T, a", "at 15"),
+    ("forall x : T, a <-> b <-> c", "at 22"),
+];
+
+/// An arrow of the shape itself is written `=>`.
+const SHAPES: [(&str, &str); 18] = [
+    ("Set", "Set[0-3]"),
+    ("Prop", "Prop[0-4]"),
+    ("T -> Set", "T[0-1] => Set[5-8]"),
+    ("T -> U -> Prop", "T[0-1] => U[5-6] => Prop[10-14]"),
+    ("T -> U -> V", "T[0-1] => U[5-6] => V[10-11]"),
+    ("a <-> b -> c", "(a[0-1] <-> b[6-7])[0-7] => c[11-12]"),
+    ("(T -> U) -> V", "(T[1-2] -> U[6-7])[1-7] => V[12-13]"),
+    ("(T -> U)", "(T[1-2] -> U[6-7])[1-7]"),
+    ("f x = x", "((f[0-1] x[2-3])[0-3] = x[6-7])[0-7]"),
+    (
+        "forall x : T, a -> b",
+        "(forall x[7-8] : T[11-12], (a[14-15] -> b[19-20])[14-20])[0-20]",
+    ),
+    ("~ a -> b", "(~ a[2-3])[0-3] => b[7-8]"),
+    (
+        "a -> forall x : T, b",
+        "a[0-1] => (forall x[12-13] : T[16-17], b[19-20])[5-20]",
+    ),
+    ("", "at 0"),
+    ("Set -> T", "at 4"),
+    ("(Set)", "at 1"),
+    ("T /\\ Set", "at 5"),
+    ("forall x : T, Set", "at 14"),
+    ("T -> Prop Set", "at 10"),
+];
+
+/// The operators, and how many bytes each has.
+const OPERATORS: [(&str, u8); 6] = [
+    ("->", 2),
+    ("<->", 3),
+    ("\\/", 2),
+    ("/\\", 2),
+    ("=", 1),
+    ("<>", 2),
+];
+
+/// For each operator as the first of two, and each as the second: L where the left one binds tighter, R where
+/// the right one does, and F where no sentence has both.
+const BESIDE: [&str; 6] = ["RRRRRR", "LFRRRR", "LLRRRR", "LLLRRR", "LLLLFF", "LLLLFF"];
+
+/// Openings inside one another: what stands before them, the opening, what stands behind all, and behind each;
+/// how many at most, and the offset of the token that is one too many.
+const OPENINGS: [(&str, &str, &str, &str, usize, u64); 10] = [
+    ("", "(", "a", ")", 256, 256),
+    ("", "f (", "a", ")", 256, 770),
+    ("", "~ ", "a", "", 256, 512),
+    ("", "a -> ", "a", "", 256, 1282),
+    ("", "a /\\ (", "a", ")", 128, 770),
+    ("", "a = exists x : T, ", "a", "", 128, 2306),
+    ("forall", " x", " : T, a", "", 256, 519),
+    ("", "forall x : T, ", "a", "", 256, 3584),
+    ("forall", " (x : T)", ", a", "", 255, 2047),
+    ("forall (", "x ", ": T), a", "", 255, 518),
+];
+
+/// So many `~`, and what stands behind them; the offset of the fault, or none.
+const LOOK_AHEAD: [(usize, &str, Option<u64>); 8] = [
+    (255, "forall x : T, a", None),
+    (256, "forall x : T, a", Some(512)),
+    (254, "forall (x : T), a", None),
+    (255, "forall (x : T), a", Some(517)),
+    (254, "exists (x : T) (y : T), a", Some(523)),
+    (253, "exists (x : T) (y : T), a", None),
+    (254, "forall x y z : T, a", Some(519)),
+    (256, "(a)", Some(512)),
+];
+
+fn tell_span(text: &mut String, span: Span) -> Result<(), NoMemory> {
+    write!(text, "[{}-{}]", span.from, span.to)?;
+    Ok(())
+}
+
+fn tell_name(text: &mut String, name: &RawName) -> Result<(), NoMemory> {
+    for byte in name.text.as_slice() {
+        text.push(char::from(*byte))?;
+    }
+    tell_span(text, name.span)
+}
+
+fn tell_group(text: &mut String, group: &RawGroup) -> Result<(), NoMemory> {
+    for name in &group.names {
+        text.push_str(" ")?;
+        tell_name(text, name)?;
+    }
+    text.push_str(" : ")?;
+    tell_name(text, &group.sort)
+}
+
+fn sign(op: RawOp) -> &'static str {
+    match op {
+        RawOp::Imp => "->",
+        RawOp::Iff => "<->",
+        RawOp::Or => "\\/",
+        RawOp::And => "/\\",
+        RawOp::Eq => "=",
+        RawOp::Ne => "<>",
+    }
+}
+
+fn tell(text: &mut String, expression: &RawExpr) -> Result<(), NoMemory> {
+    match expression {
+        RawExpr::True(span) => {
+            text.push_str("True")?;
+            tell_span(text, *span)
+        }
+        RawExpr::False(span) => {
+            text.push_str("False")?;
+            tell_span(text, *span)
+        }
+        RawExpr::App(name, arguments, span) if arguments.is_empty() && *span == name.span => {
+            tell_name(text, name)
+        }
+        RawExpr::App(name, arguments, span) => {
+            text.push_str("(")?;
+            tell_name(text, name)?;
+            for argument in arguments {
+                text.push_str(" ")?;
+                tell(text, argument)?;
+            }
+            text.push_str(")")?;
+            tell_span(text, *span)
+        }
+        RawExpr::Binary(op, left, right, span) => {
+            text.push_str("(")?;
+            tell(text, left)?;
+            write!(text, " {} ", sign(*op))?;
+            tell(text, right)?;
+            text.push_str(")")?;
+            tell_span(text, *span)
+        }
+        RawExpr::Not(operand, span) => {
+            text.push_str("(~ ")?;
+            tell(text, operand)?;
+            text.push_str(")")?;
+            tell_span(text, *span)
+        }
+        RawExpr::Quant(all, groups, body, span) => {
+            text.push_str(if *all { "(forall" } else { "(exists" })?;
+            for group in groups {
+                tell_group(text, group)?;
+                text.push_str(",")?;
+            }
+            text.push_str(" ")?;
+            tell(text, body)?;
+            text.push_str(")")?;
+            tell_span(text, *span)
+        }
+    }
+}
+
+fn tell_shape(text: &mut String, shape: &Shape) -> Result<(), NoMemory> {
+    match shape {
+        Shape::Set(span) => {
+            text.push_str("Set")?;
+            tell_span(text, *span)
+        }
+        Shape::Prop(span) => {
+            text.push_str("Prop")?;
+            tell_span(text, *span)
+        }
+        Shape::Arrow(operand, rest) => {
+            tell(text, operand)?;
+            text.push_str(" => ")?;
+            tell_shape(text, rest)
+        }
+        Shape::Plain(expression) => tell(text, expression),
+    }
+}
+
+/// The tokens of a sentence, each of which is a slice of it.
+fn tokens_of(alloc: Global, sentence: &[u8]) -> Result<Tokens, NoMemory>
+    ensures { IfOk result (λ found. All (IsTokenOf sentence.now) found) }
+{
+    tokens_are_slices();
+    tokens(alloc, sentence)
+}
+
+/// The tree of a sentence, or its fault.
+fn told_expression(alloc: Global, sentence: &str) -> Result<String, Fail> {
+    let sentence = sentence.as_bytes();
+    let found = tokens_of(alloc, sentence)?;
+    let mut text = String::new(alloc);
+    match expression(alloc, found.as_slice(), sentence) {
+        Ok(tree) => tell(&mut text, &tree)?,
+        Err(ParseFault::At(offset)) => write!(text, "at {offset}")?,
+        Err(ParseFault::NoMemory) => text.push_str("out of memory")?,
+    }
+    Ok(text)
+}
+
+fn told_shape(alloc: Global, sentence: &str) -> Result<String, Fail> {
+    let sentence = sentence.as_bytes();
+    let found = tokens_of(alloc, sentence)?;
+    let mut text = String::new(alloc);
+    match shape(alloc, found.as_slice(), sentence) {
+        Ok(tree) => tell_shape(&mut text, &tree)?,
+        Err(ParseFault::At(offset)) => write!(text, "at {offset}")?,
+        Err(ParseFault::NoMemory) => text.push_str("out of memory")?,
+    }
+    Ok(text)
+}
+
+/// What is told of three names with two operators, each with its bytes, between them.
+fn told_beside(
+    alloc: Global,
+    (first, first_bytes): (&str, u8),
+    (second, second_bytes): (&str, u8),
+    side: u8,
+) -> Result<String, NoMemory> {
+    let b = u64::from(first_bytes) + 3;
+    let at = b + 2;
+    let c = at + u64::from(second_bytes) + 1;
+    let (b_end, c_end) = (b + 1, c + 1);
+    let mut text = String::new(alloc);
+    match side {
+        b'L' => write!(
+            text,
+            "((a[0-1] {first} b[{b}-{b_end}])[0-{b_end}] {second} c[{c}-{c_end}])[0-{c_end}]"
+        )?,
+        b'R' => write!(
+            text,
+            "(a[0-1] {first} (b[{b}-{b_end}] {second} c[{c}-{c_end}])[{b}-{c_end}])[0-{c_end}]"
+        )?,
+        _ => write!(text, "at {at}")?,
+    }
+    Ok(text)
+}
+
+#[test]
+fn each_operator_stands_beside_each_other(rt: HostRuntime) -> Result<(), Fail> {
+    for (first, row) in OPERATORS.iter().zip(&BESIDE) {
+        for (second, side) in OPERATORS.iter().zip(row.as_bytes()) {
+            let mut sentence = String::new(rt.alloc());
+            write!(sentence, "a {} b {} c", first.0, second.0)?;
+            let want = told_beside(rt.alloc(), *first, *second, *side)?;
+            let told = told_expression(rt.alloc(), sentence.as_str())?;
+            assert_eq!(rt; told.as_str(), want.as_str(), "at {sentence}");
+        }
+    }
+    Ok(())
+}
+
+/// Where the fault of a sentence is, or none where it has a tree.
+fn fault_of(alloc: Global, sentence: &str) -> Result<Option<u64>, Fail> {
+    let sentence = sentence.as_bytes();
+    let found = tokens_of(alloc, sentence)?;
+    match expression(alloc, found.as_slice(), sentence) {
+        Ok(_) => Ok(None),
+        Err(ParseFault::At(offset)) => Ok(Some(offset)),
+        Err(ParseFault::NoMemory) => Ok(Some(u64::MAX)),
+    }
+}
+
+fn repeat(text: &mut String, piece: &str, count: usize) -> Result<(), NoMemory> {
+    for _ in 0..count {
+        text.push_str(piece)?;
+    }
+    Ok(())
+}
+
+#[test]
+fn at_most_256_openings_are_open(rt: HostRuntime) -> Result<(), Fail> {
+    for (front, opening, tail, end, most, offset) in OPENINGS {
+        for count in [127, 128, 129, 254, 255, 256, 257] {
+            let mut sentence = String::from_str(rt.alloc(), front)?;
+            repeat(&mut sentence, opening, count)?;
+            sentence.push_str(tail)?;
+            repeat(&mut sentence, end, count)?;
+            let want = if count > most { Some(offset) } else { None };
+            assert_eq!(rt;
+                fault_of(rt.alloc(), sentence.as_str())?,
+                want,
+                "at {opening} {count}"
+            );
+        }
+    }
+    for (count, tail, offset) in LOOK_AHEAD {
+        let mut sentence = String::new(rt.alloc());
+        repeat(&mut sentence, "~ ", count)?;
+        sentence.push_str(tail)?;
+        assert_eq!(rt;
+            fault_of(rt.alloc(), sentence.as_str())?,
+            offset,
+            "at {count} {tail}"
+        );
+    }
+    Ok(())
+}
+
+#[test]
+fn a_shape_has_at_most_256_arrows(rt: HostRuntime) -> Result<(), Fail> {
+    for (count, want) in [(255, false), (256, false), (257, true)] {
+        let mut sentence = String::new(rt.alloc());
+        repeat(&mut sentence, "T -> ", count)?;
+        sentence.push_str("Set")?;
+        let told = told_shape(rt.alloc(), sentence.as_str())?;
+        assert_eq!(rt; told.as_str() == "at 1282", want, "at {count}");
+    }
+    Ok(())
+}
+
+/// How many arguments an application has.
+fn arguments_in(tree: &RawExpr) -> usize {
+    match tree {
+        RawExpr::App(_, arguments, _) => arguments.len(),
+        _ => 0,
+    }
+}
+
+#[test]
+fn a_long_sentence_is_read(rt: HostRuntime) -> Result<(), Fail> {
+    let mut sentence = String::from_str(rt.alloc(), "f")?;
+    repeat(&mut sentence, " a", 32767)?;
+    let sentence = sentence.as_bytes();
+    let found = tokens_of(rt.alloc(), sentence)?;
+    let count = match expression(rt.alloc(), found.as_slice(), sentence) {
+        Ok(tree) => arguments_in(&tree),
+        Err(_) => 0,
+    };
+    assert_eq!(rt; count, 32767);
+    Ok(())
+}
+
+fn assert_told(rt: &(impl Abort + AllocGlobal), rows: &[(&str, &str)]) -> Result<(), Fail> {
+    for (sentence, want) in rows {
+        let told = told_expression(rt.alloc(), sentence)?;
+        assert_eq!(rt; told.as_str(), *want, "at {sentence}");
+    }
+    Ok(())
+}
+
+#[test]
+fn each_sentence_has_its_tree_or_fault_1(rt: HostRuntime) -> Result<(), Fail> {
+    assert_told(&rt, &EXPRESSIONS_1)
+}
+
+#[test]
+fn each_sentence_has_its_tree_or_fault_2(rt: HostRuntime) -> Result<(), Fail> {
+    assert_told(&rt, &EXPRESSIONS_2)
+}
+
+#[test]
+fn each_sentence_has_its_tree_or_fault_3(rt: HostRuntime) -> Result<(), Fail> {
+    assert_told(&rt, &EXPRESSIONS_3)
+}
+
+#[test]
+fn each_sentence_has_its_tree_or_fault_4(rt: HostRuntime) -> Result<(), Fail> {
+    assert_told(&rt, &EXPRESSIONS_4)
+}
+
+#[test]
+fn each_shape_has_its_tree_or_fault(rt: HostRuntime) -> Result<(), Fail> {
+    for (sentence, want) in SHAPES {
+        let told = told_shape(rt.alloc(), sentence)?;
+        assert_eq!(rt; told.as_str(), want, "at {sentence}");
+    }
+    Ok(())
+}
