@@ -1,0 +1,7 @@
+-- Which values are lists.
+use Rattle.std.specs.Prelude.{Bool, true, false}
+use Rattle.sexp_theory.specs.Values.{Value, atom, list}
+
+abbrev pub is_list : Value → Bool
+is_list (atom bytes) = false
+is_list (list vs) = true

@@ -1,0 +1,201 @@
+//! The items of an input that comes in pieces.
+ghost use Rattle.std.specs.Prelude.{◌≡◌, ◌+◌, ◌≤◌, ◌^◌, length, drop, false, None, IfOk, OnErr};
+ghost use Rattle.sexp_theory.specs.Items.{fed, fresh, most_bytes, taken};
+ghost use Rattle.sexp_core.specs.Reading.{Finishes, Gives};
+
+use crate::item::{Finish, Item};
+use crate::machine::Machine;
+use crate::scan::{Front, Scanned, behind_line, bytes_from, front_gap, scan};
+use base_core::NoMemory;
+use sexp_theory::InputEnd;
+use std::alloc::Global;
+use std::marker::Model;
+
+/// The most bytes of an item.
+const MOST_BYTES: u64 = 1_048_576;
+
+/// Reads the items of an input that is fed in pieces, however it is cut.
+///
+/// Contracts see the bytes that were fed and are in no item yet, the offset of the first of them in all that was
+/// fed, whether they begin in a line that is passed over behind a bad place (or in a comment), and the most bytes
+/// that an item may have. No clause says how often a byte is looked at: the bytes of an item that isn't whole yet
+/// are not looked at again because more is fed, but after `NoMemory`.
+#[derive(Drop)]
+pub struct Reader {
+    bytes: Vec<u8>,
+    front: Front,
+    machine: Machine,
+    limit: u64,
+}
+
+impl Model for Reader {
+    ghost use Rattle.sexp_core.specs.Reading.{Reading};
+    ghost use Rattle.sexp_core.specs.Progress.{IsFront, unread_from};
+
+    ghost Value = { Reading };
+
+    ghost view = { λ r. record { unread = unread_from r.bytes.items r.front; limit = r.limit } };
+
+    ghost invariant = { λ r. IsFront r.limit r.bytes.items r.front r.machine };
+}
+
+impl Reader {
+    /// A reader that nothing was fed to. An item has at most 1,048,576 bytes.
+    pub fn new(alloc: Global) -> Result<Reader, NoMemory>
+        ensures { IfOk result (λ r. r ≡ record { unread = fresh; limit = most_bytes }) }
+    {
+        Reader::with_limit(alloc, MOST_BYTES)
+    }
+
+    /// The same with another limit for an item, in bytes.
+    pub(crate) fn with_limit(alloc: Global, limit: u64) -> Result<Reader, NoMemory>
+        ensures { IfOk result (λ r. r ≡ record { unread = fresh; limit = limit }) }
+    {
+        Ok(Reader {
+            bytes: Vec::new(alloc),
+            front: Front {
+                start: 0,
+                at: 0,
+                skipping: false,
+                seen: 0,
+            },
+            machine: Machine::new(alloc),
+            limit,
+        })
+    }
+
+    /// Appends a piece of the input. At most 2^63 bytes are fed in all. After `NoMemory` nothing of the piece is
+    /// fed, and the reader is as before.
+    pub fn feed(&mut self, piece: &[u8]) -> Result<(), NoMemory>
+        requires { self.old.unread.at + length self.old.unread.bytes + length piece.now ≤ 2 ^ 63 }
+        ensures fed { IfOk result (λ _. self.new ≡ record { unread = fed self.old.unread piece.now; limit = self.old.limit }) }
+        ensures no_memory { OnErr result (self.new ≡ self.old) }
+    {
+        self.front.start = compact(&mut self.bytes, self.front.start);
+        self.bytes.extend_from_slice(piece)?;
+        Ok(())
+    }
+
+    /// How many bytes were fed in all.
+    pub fn fed(&self) -> u64
+        ensures { result ≡ self.now.unread.at + length self.now.unread.bytes }
+    {
+        self.front.at + (self.bytes.len() - self.front.start) as u64
+    }
+
+    /// The next item, or None exactly where what was fed holds no further whole item; then the blanks, comments and
+    /// passed over lines at the front are gone. After `NoMemory` the reader is as before.
+    pub fn next(&mut self) -> Result<Option<Item>, NoMemory>
+        ensures given { IfOk result (λ item. Gives self.old item self.new) }
+        ensures no_more_fed { self.new.unread.at + length self.new.unread.bytes ≤ self.old.unread.at + length self.old.unread.bytes }
+        ensures no_memory { OnErr result (self.new ≡ self.old) }
+    {
+        let Front {
+            start,
+            at,
+            skipping,
+            seen,
+        } = self.front;
+        let unread = bytes_from(&self.bytes, start);
+        let gap = front_gap(unread, skipping);
+        let item = bytes_from(unread, gap.len);
+        let from = at + gap.len as u64;
+        if item.is_empty() {
+            self.front = unseen(start + gap.len, from, gap.in_line);
+            return Ok(None);
+        }
+        match scan(&mut self.machine, item, seen, from, self.limit) {
+            Err(error) => {
+                self.machine.clear();
+                self.front = unseen(start, at, skipping);
+                Err(error)
+            }
+            Ok(Scanned::More) => {
+                self.front = Front {
+                    start: start + gap.len,
+                    at: from,
+                    skipping: false,
+                    seen: item.len(),
+                };
+                Ok(None)
+            }
+            Ok(Scanned::Whole(value, to)) => {
+                self.machine.clear();
+                self.front = unseen(start + (to - at) as usize, to, false);
+                Ok(Some(Item::Value(value, from, to)))
+            }
+            Ok(Scanned::Bad(kind, place)) => {
+                self.machine.clear();
+                let before = place.saturating_sub(at) as usize;
+                self.front = behind_line(&self.bytes, start + before, place);
+                Ok(Some(Item::Bad(place, kind)))
+            }
+        }
+    }
+
+    /// The last item of an input that ends here, and how it ends, asked once `next` has given None.
+    pub fn finish(mut self) -> Result<Finish, NoMemory>
+        requires { taken self.limit false self.unread ≡ None }
+        ensures { IfOk result (λ finish. Finishes self finish) }
+    {
+        let Front {
+            start,
+            at,
+            skipping,
+            seen,
+        } = self.front;
+        let unread = bytes_from(&self.bytes, start);
+        let gap = front_gap(unread, skipping);
+        let item = bytes_from(unread, gap.len);
+        let from = at + gap.len as u64;
+        let end = at + unread.len() as u64;
+        if item.is_empty() {
+            return Ok(Finish {
+                last: None,
+                ended: InputEnd::Clean,
+            });
+        }
+        match scan(&mut self.machine, item, seen, from, self.limit)? {
+            Scanned::More => {}
+            _ => unreachable!(),
+        }
+        if !self.machine.is_outer_run() {
+            return Ok(Finish {
+                last: None,
+                ended: InputEnd::Truncated(from),
+            });
+        }
+        Ok(Finish {
+            last: Some(Item::Value(self.machine.take_atom(), from, end)),
+            ended: InputEnd::Clean,
+        })
+    }
+}
+
+/// Nothing was looked at.
+fn unseen(start: usize, at: u64, skipping: bool) -> Front
+    ensures { result ≡ record { start = start; at = at; skipping = skipping; seen = 0 } }
+{
+    Front {
+        start,
+        at,
+        skipping,
+        seen: 0,
+    }
+}
+
+/// Moves the bytes from `start` on to the front where more bytes stand before them than are moved, and says where
+/// they are then. So all moves together cost no more than the bytes that were read.
+fn compact(bytes: &mut Vec<u8>, start: usize) -> usize
+    requires { start ≤ length bytes.old.items }
+    ensures kept { drop result bytes.new.items ≡ drop start bytes.old.items }
+    ensures within { result ≤ length bytes.new.items }
+{
+    let kept = bytes.len() - start;
+    if start <= kept {
+        return start;
+    }
+    bytes.copy_within(start.., 0);
+    bytes.truncate(kept);
+    0
+}

@@ -1,0 +1,26 @@
+pub mod Lists
+pub mod Walks
+pub mod Steps
+pub mod Runs
+pub mod Quotes
+pub mod Gaps
+pub mod Spelled
+pub mod Escapes
+pub mod Inside
+pub mod Found
+pub mod Grown
+pub mod Kept
+pub mod Computed
+mod Rows
+pub mod Taking
+pub mod Same
+pub mod Fed
+pub mod Behind
+pub mod Within
+pub mod Streams
+pub mod Goes
+pub mod AtomTexts
+pub mod ReadAgain
+pub mod Texts
+pub mod Depths
+pub mod TextSpelled

@@ -1,0 +1,9 @@
+pub mod Values
+pub mod Signs
+pub mod Writing
+pub mod Spelling
+pub mod Places
+pub mod Machine
+pub mod Items
+pub mod Reading
+pub mod Written

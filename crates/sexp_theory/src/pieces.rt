@@ -1,0 +1,19 @@
+//! The laws of bytes that come in pieces.
+ghost use Rattle.std.specs.Prelude.{◌≡◌, ◌≤◌, ℕ, List, ◌∷◌, ◌++◌, length, [], Bool, true, false, Some, None};
+ghost use Rattle.sexp_theory.specs.Items.{Unread, Taken, taken, items_of, end_of, fed, without_gap, end_offset, last_items};
+
+/// What comes later never changes the items before it: an item that may be taken is the first, whatever comes
+/// behind, and blanks, comments and passed over lines in front of an item don't matter. An input that is ended
+/// has the items that were taken, then what `taken` gives of the rest.
+pub fn pieces_have_the_items_of_the_whole()
+    ensures taken { (limit : ℕ) (ended : Bool) (u : Unread) (t : Taken) (more : List ℕ) → taken limit false u ≡ Some t → items_of limit ended (fed u more) ≡ t.item ∷ items_of limit ended (fed t.rest more) }
+    ensures taken_end { (limit : ℕ) (u : Unread) (t : Taken) (more : List ℕ) → taken limit false u ≡ Some t → end_of limit (fed u more) ≡ end_of limit (fed t.rest more) }
+    ensures gap { (limit : ℕ) (ended : Bool) (u : Unread) (more : List ℕ) → items_of limit ended (fed (without_gap u) more) ≡ items_of limit ended (fed u more) }
+    ensures gap_end { (limit : ℕ) (u : Unread) (more : List ℕ) → end_of limit (fed (without_gap u) more) ≡ end_of limit (fed u more) }
+    ensures joined { (u : Unread) (xs ys : List ℕ) → fed (fed u xs) ys ≡ fed u (xs ++ ys) }
+    ensures none { (limit : ℕ) (u : Unread) → taken limit false u ≡ None → items_of limit false u ≡ [] }
+    ensures offset { (limit : ℕ) (u : Unread) (t : Taken) → taken limit false u ≡ Some t → end_offset t.rest ≡ end_offset u }
+    ensures gap_offset { (u : Unread) → end_offset (without_gap u) ≡ end_offset u }
+    ensures last { (limit : ℕ) (u : Unread) → taken limit false u ≡ None → items_of limit true u ≡ last_items (taken limit true u) }
+    ensures few { (limit : ℕ) (ended : Bool) (u : Unread) → length (items_of limit ended u) ≤ length u.bytes }
+{}
