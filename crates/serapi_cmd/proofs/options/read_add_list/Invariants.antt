@@ -1,0 +1,7 @@
+use Rattle.std.proofs.Common.{◌≡◌, drop}
+use Rattle.serapi_cmd.specs.Fields.{meanings, read_each}
+use Rattle.serapi_cmd.specs.Options.{add_option, no_add_option}
+use Rattle.serapi_cmd.proofs.options.read_add_list.Given as goal
+
+abbrev pub invariant-loop-option : goal.invariant-loop-option
+invariant-loop-option l = read_each add_option l.given (meanings (drop l.option-index l.options)) ≡ read_each add_option no_add_option (meanings l.options)

@@ -1,0 +1,50 @@
+-- The fields of a list.
+use Rattle.std.specs.Prelude.{ℕ, List, map, Option, Some, None, Result, Ok, Err, codes, Bool, nat_eq}
+use Rattle.std.specs.Cmp.Lexicographic.{pointwise}
+use Rattle.std.specs.Borrow.{Bor}
+use Rattle.sexp_core.specs.declared.sexp.Sexp.{Sexp}
+use Rattle.sexp_core.specs.Sexp.{meaning}
+use Rattle.sexp_theory.specs.Values.{Value, atom, list, Values, nil, cons, values}
+use Rattle.serapi_cmd.specs.Faults.{Fault, bad_field, and_then}
+
+-- the values that a list of Rust's stands for
+abbrev pub meanings : List Sexp → Values
+meanings fields = values (map meaning fields)
+
+abbrev pub of_one : Bor Sexp → Value
+of_one field = meaning field.now
+
+abbrev pub of_two : Bor Sexp × Bor Sexp → Value × Value
+of_two fields = (meaning fields.0.now, meaning fields.1.now)
+
+-- the one value of a list of one
+abbrev pub one : Values → Option Value
+one (cons v nil) = Some v
+one other = None
+
+-- the two values of a list of two
+abbrev pub two : Values → Option (Value × Value)
+two (cons v (cons w nil)) = Some (v, w)
+two other = None
+
+-- the atom and the value of a list of two whose first is an atom
+abbrev pub pair : Value → Option (List ℕ × Value)
+pair (list (cons (atom word) (cons v nil))) = Some (word, v)
+pair other = None
+
+-- an atom's bytes
+abbrev pub text : Value → Result (List ℕ) Fault
+text (atom bytes) = Ok bytes
+text (list vs) = Err (bad_field (codes "text"))
+
+-- the bytes are those of the word
+abbrev pub is_word : List ℕ → List ℕ → Bool
+is_word bytes word = pointwise nat_eq bytes word
+
+abbrev pub of_pair : Bor (List ℕ) × Bor Sexp → List ℕ × Value
+of_pair fields = (fields.0.now, meaning fields.1.now)
+
+-- each value is read behind what those before it have given; the first fault stands
+abbrev pub read_each : {G : Type 0} → (G → Value → Result G Fault) → G → Values → Result G Fault
+read_each read given nil = Ok given
+read_each read given (cons v vs) = and_then (read given v) (λ more. read_each read more vs)
