@@ -1,0 +1,5 @@
+mod Numbers
+mod Putting
+mod Inverse
+mod Told
+mod Readings

@@ -1,0 +1,62 @@
+-- Lines whose numbers are those of Rust's: each is below 2 ^ 64.
+use Rattle.std.specs.Prelude.{ℕ, ◌<◌, ◌^◌, List, [], ◌∷◌, Option, Some, None}
+use Rattle.serapi_ans.specs.Lines.{IsOfBytes}
+use Rattle.serapi_ans.specs.declared.line.Line.{Line}
+use Rattle.serapi_ans.specs.declared.line.Line.TheVariants.{Ack, Added, Canceled, EditAt, ObjList, Joined, CoqExn, OutOfMemory, Completed, Feedback, BadInput}
+use Rattle.serapi_ans.specs.declared.line.EditLine.{EditLine}
+use Rattle.serapi_ans.specs.declared.line.EditLine.TheVariants.{NewTip, Focus}
+use Rattle.serapi_ans.specs.declared.line.Exn.{Exn}
+use Rattle.serapi_ans.specs.declared.line.Exn.TheVariants.{Parse, NoOpenProof, ProofOpen, BadCloser, NotTip, NoSuchState, ZoneOpen, TooMany, Check, UnknownName, Unsupported}
+
+abbrev pub IsSmall : ℕ → Type 0
+IsSmall n = n < 2 ^ 64
+
+abbrev pub AreSmall : List ℕ → Type 0
+AreSmall [] = Unit {0}
+AreSmall (n ∷ ns) = IsSmall n × AreSmall ns
+
+abbrev pub FitsTip : Option ℕ → Type 0
+FitsTip None = Unit {0}
+FitsTip (Some tip) = IsSmall tip
+
+abbrev pub FitsEdit : EditLine → Type 0
+FitsEdit (NewTip id) = IsSmall id
+FitsEdit (Focus start stop tip) = IsSmall start × IsSmall stop × IsSmall tip
+
+abbrev pub FitsFaults : List (ℕ × List ℕ) → Type 0
+FitsFaults [] = Unit {0}
+FitsFaults ((id, text) ∷ faults) = IsSmall id × FitsFaults faults
+
+abbrev pub FitsExn : Exn → Type 0
+FitsExn (Parse offset) = IsSmall offset
+FitsExn (NoOpenProof offset) = IsSmall offset
+FitsExn (ProofOpen offset lemma) = IsSmall offset × IsSmall lemma
+FitsExn (BadCloser offset closer) = IsSmall offset × IsSmall closer
+FitsExn (NotTip id) = IsSmall id
+FitsExn (NoSuchState id) = IsSmall id
+FitsExn (ZoneOpen id closer) = IsSmall id × IsSmall closer
+FitsExn (TooMany offset) = IsSmall offset
+FitsExn (Check id text) = IsSmall id
+FitsExn (UnknownName name) = Unit {0}
+FitsExn Unsupported = Unit {0}
+
+abbrev pub Fits : Line → Type 0
+Fits (Ack tag) = Unit {0}
+Fits (Added tag id from to tip) = IsSmall id × IsSmall from × IsSmall to × FitsTip tip
+Fits (Canceled tag ids) = AreSmall ids
+Fits (EditAt tag edit) = FitsEdit edit
+Fits (ObjList tag texts) = Unit {0}
+Fits (Joined tag sentences faults) = IsSmall sentences × FitsFaults faults
+Fits (CoqExn tag exn) = FitsExn exn
+Fits (OutOfMemory tag) = Unit {0}
+Fits (Completed tag) = Unit {0}
+Fits (Feedback id route verdict) = IsSmall id × IsSmall route
+Fits (BadInput place kind position) = IsSmall place × IsSmall position
+
+-- a line that Rust may have: of bytes, and with numbers below 2 ^ 64
+abbrev pub IsLine : Line → Type 0
+IsLine line = IsOfBytes line × Fits line
+
+abbrev pub AreLines : List Line → Type 0
+AreLines [] = Unit {0}
+AreLines (line ∷ lines) = IsLine line × AreLines lines

@@ -1,0 +1,5 @@
+pub mod Lines
+pub mod Joined
+pub mod Pieces
+pub mod Fitting
+pub mod Reading
