@@ -25,8 +25,10 @@ fn main(rt: HostRuntime) -> ExitCode {
     let Ok(words) = args.skip(1).collect::<Vec<String>>(alloc) else {
         return ExitCode::from(NO_MEMORY);
     };
+    let Ok(sink) = StdSink::new(alloc, rt.stdout()) else {
+        return ExitCode::from(NO_MEMORY);
+    };
     let mut source = StdSource::new(rt.stdin());
-    let sink = StdSink::new(rt.stdout());
     let ended = sertop_main(alloc, words.as_slice(), &mut source, sink);
     ExitCode::from(ended.status)
 }

@@ -1,6 +1,6 @@
 //! The top call.
 ghost use Rattle.std.specs.Prelude.{◌≡◌, ◌⊎◌, []};
-ghost use Rattle.session_run.specs.Headline.{HasCompleteness, HasDoneCause, HasRead, HasReadFaultCause, HasTooLongCause, HasWords, HasWriteFaultCause, HasWritten, HasLegalHistory, IsOneThread, IsStatus};
+ghost use Rattle.session_run.specs.Headline.{HasCompleteness, HasDoneCause, HasRead, HasReadFaultCause, HasTooLongCause, HasTruncatedCause, HasWords, HasWriteFaultCause, HasWritten, HasLegalHistory, IsOneThread, IsStatus};
 
 use session_run::{BAD_WORDS, Ended, History, serve_alone};
 use std::alloc::Global;
@@ -31,9 +31,10 @@ pub fn sertop_main<S: Source, K: Sink>(
 
     // The causes of each status.
     ensures known { (result.status ≡ BAD_WORDS) ⊎ IsStatus result.status }
-    ensures done { HasDoneCause result.status result.taken result.at_end result.history.entries }
+    ensures done { HasDoneCause (S.left source.old) result.status result.taken result.at_end result.history.entries }
     ensures read_fault { HasReadFaultCause (S.faults source.old) (S.faults source.new) result.status }
     ensures write_fault { HasWriteFaultCause (K.faults sink) (K.faults result.sink) result.status }
+    ensures truncated { HasTruncatedCause (S.left source.old) result.status result.taken result.at_end result.history.entries }
     ensures too_long { HasTooLongCause result.status result.taken result.at_end result.history.entries }
 
     // Without faults and want of memory everything is answered.

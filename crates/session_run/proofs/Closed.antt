@@ -1,53 +1,70 @@
 -- What stands of a run once its history is closed.
 use Rattle.std.proofs.Common.{◌≡◌, ℕ, ◌<◌, ◌≤◌, ◌⊎◌, inl, inr, List, [], ◌∷◌, ◌++◌, length, take, drop, Option, None, Some, IfSome, Bool, true, false, ◌||◌, refl, sym, ap, ◌∙◌, subst, append-nil, length-append, arith}
-use Rattle.std.specs.Io.KnownBytes.{Appends, Consumes, IsAtEnd}
+use Rattle.std.specs.Io.KnownBytes.{Appends, IsAtEnd}
 use Rattle.std.proofs.Math.Seq.{take-append_seam}
-use Rattle.std.proofs.lemmas.List.{take_all, take_at, drop_at}
+use Rattle.std.proofs.lemmas.List.{take_all}
 use Rattle.stm_base.specs.Counts.{Rose, Stood}
 use Rattle.stm_base.specs.Output.{Output, AppendsPrefix, Grew, IsPut, fresh}
-use Rattle.session_run.specs.Items.{items}
-use Rattle.session_run.specs.Answers.{Document, answer, last_replies, replies_to, tagged}
+use Rattle.sexp_theory.specs.declared.input.InputEnd.{InputEnd}
+use Rattle.sexp_theory.specs.declared.input.InputEnd.TheVariants.{Clean, Truncated}
+use Rattle.serapi_cmd.specs.declared.request.Request.{Request}
+use Rattle.serapi_cmd.specs.declared.request.Request.TheVariants.{Do, Bad}
+use Rattle.serapi_ans.specs.declared.line.Line.{Line}
+use Rattle.serapi_ans.specs.declared.line.Line.TheVariants as line
+use Rattle.serapi_cmd.specs.Requests.{input_end}
+use Rattle.session_run.specs.Items.{requests_in}
+use Rattle.session_run.specs.Answers.{Document, MayBe, answer, command_lines, last_lines}
 use Rattle.session_run.specs.Histories.{Place, start, step, place, Legal, LegalFrom, render, requests, outcomes}
-use Rattle.session_run.specs.Inputs.{IsStopped, has_ended}
-use Rattle.session_run.specs.Headline.{AllWhole, HasCompleteness, HasDoneCause, HasRead, HasReadFaultCause, HasTooLongCause, HasWriteFaultCause, HasWritten, IsAnswered, IsDone, HasLegalHistory, IsOneThread, IsStatus, IsTaken, IsTooLong, any_short, has_short, is_short_reply}
-use Rattle.session_run.specs.Sessions.{Begins, IsLost, IsServed, status_of, status_of_loss}
+use Rattle.session_run.specs.Headline.{AllWhole, EndsClean, EndsInside, HasCompleteness, HasDoneCause, HasRead, HasReadFaultCause, HasTooLongCause, HasTruncatedCause, HasWriteFaultCause, HasWritten, IsAnswered, IsClean, HasLegalHistory, IsOneThread, IsOrLost, IsQuit, IsStatus, IsTaken, IsTooLong, IsTruncated, any_short, has_short, is_short}
+use Rattle.session_run.specs.Serving.{Begins, HasStopped, IsAll, IsLost, Served, status_of, status_of_loss}
 use Rattle.session_run.proofs.Grown.{place-grown, legal-grown, render-grown, requests-closed, one_thread}
-use Rattle.session_run.specs.declared.request.Request.{Request}
-use Rattle.session_run.specs.declared.request.Cut.{Cut}
-use Rattle.session_run.specs.declared.request.Cut.TheVariants.{Whole, After}
-use Rattle.session_run.specs.declared.line.Line.{Line}
-use Rattle.session_run.specs.declared.line.Reply.{Reply}
+use Rattle.session_run.specs.declared.cut.Cut.{Cut}
+use Rattle.session_run.specs.declared.cut.Cut.TheVariants.{Whole, After}
 use Rattle.session_run.specs.declared.history.Entry.{Entry}
 use Rattle.session_run.specs.declared.history.Entry.TheVariants.{Command, Close}
-use Rattle.session_run.specs.declared.input.Stop.{Stop}
-use Rattle.session_run.specs.declared.input.Stop.TheVariants.{End, Fault, Limit, NoMemory}
-use Rattle.session_run.specs.declared.serve.Answered.{Answered}
 use Rattle.session_run.specs.declared.serve.Loss.{Loss}
 use Rattle.session_run.specs.declared.serve.Loss.TheVariants.{WriteFault, WantOfMemory}
-use Rattle.session_run.specs.declared.serve.Answered.TheVariants.{All, Quit, Lost}
-use Rattle.session_run.specs.declared.status.TheConstants.{DONE, READ_FAULT, WRITE_FAULT, NO_MEMORY, TOO_LONG}
-use Rattle.session_run.specs.declared.input.TheConstants.{INPUT_LIMIT}
+use Rattle.session_run.specs.declared.serve.Stop.{Stop}
+use Rattle.session_run.specs.declared.serve.Stop.TheVariants.{Quit, End, Fault, Limit, Lost}
+use Rattle.session_run.specs.declared.status.TheConstants.{DONE, READ_FAULT, WRITE_FAULT, NO_MEMORY, TRUNCATED, TOO_LONG}
+use Rattle.session_run.specs.declared.serve.TheConstants.{INPUT_LIMIT}
 
 -- ---- the status of a run, before its history is closed
 
-record Facts (bytes : List ℕ) (at_end : Bool) (status : ℕ) (k : List Entry) (o : Output) (r s : ℕ) : Type 0 where
-  first : Begins (items bytes at_end) k
-  whole : IsAnswered status → items bytes at_end ≡ requests k
+record Facts (before : Option (List ℕ)) (r s n : ℕ) (at_end : Bool) (status : ℕ) (k : List Entry) (o : Output) : Type 0 where
+  first : IfSome before (λ all. Begins (requests_in (take n all) at_end) k)
+  whole : IsAnswered status → IsAll before n at_end k
   clean : IsAnswered status → o.failed ≡ false
   ended : status ≡ DONE → (place k).quit ≡ false → at_end ≡ true
+  truncated_end : status ≡ TRUNCATED → at_end ≡ true
   not_ended : (status ≡ READ_FAULT) ⊎ (status ≡ TOO_LONG) → at_end ≡ false
-  done_only : status ≡ DONE → IsDone (length bytes) at_end k
-  done_always : IsDone (length bytes) at_end k → (status ≡ DONE) ⊎ ((status ≡ WRITE_FAULT) ⊎ (status ≡ NO_MEMORY))
+  done_only : status ≡ DONE → IsQuit k ⊎ IfSome before (λ all. IsClean all n at_end k)
+  done_which : status ≡ DONE → IsQuit k ⊎ (at_end ≡ true)
+  at_quit : IsQuit k → IsOrLost status DONE
+  at_clean : IfSome before (λ all. IsClean all n at_end k → IsOrLost status DONE)
   read_fault : status ≡ READ_FAULT → Rose r s
-  reads : (status ≡ DONE) ⊎ (status ≡ TOO_LONG) → s ≡ r
+  reads : (status ≡ DONE) ⊎ ((status ≡ TRUNCATED) ⊎ (status ≡ TOO_LONG)) → s ≡ r
   write_fault : status ≡ WRITE_FAULT → Rose o.first_faults o.faults
-  long_only : status ≡ TOO_LONG → IsTooLong (length bytes) at_end k
-  long_always : IsTooLong (length bytes) at_end k → (status ≡ TOO_LONG) ⊎ ((status ≡ WRITE_FAULT) ⊎ (status ≡ NO_MEMORY))
+  truncated_only : status ≡ TRUNCATED → IfSome before (λ all. IsTruncated all n at_end k)
+  truncated_always : IfSome before (λ all. IsTruncated all n at_end k → IsOrLost status TRUNCATED)
+  long_only : status ≡ TOO_LONG → IsTooLong n at_end k
+  long_always : IsTooLong n at_end k → IsOrLost status TOO_LONG
   known : IsStatus status
 
-all-front : (bytes : List ℕ) (at_end : Bool) (k : List Entry) → items bytes at_end ≡ requests k
-    → Begins (items bytes at_end) k
-all-front bytes at_end k e = ([], e ∙ sym (append-nil (requests k)))
+-- what holds of all bytes holds of those that are told
+each : (before : Option (List ℕ)) (P : List ℕ → Type 0) → ((all : List ℕ) → P all) → IfSome before P
+each None P f = tt
+each (Some all) P f = f all
+
+mapped : (before : Option (List ℕ)) (P Q : List ℕ → Type 0) → ((all : List ℕ) → P all → Q all) → IfSome before P → IfSome before Q
+mapped None P Q f p = tt
+mapped (Some all) P Q f p = f all p
+
+begins-all : (before : Option (List ℕ)) (n : ℕ) (at_end : Bool) (k : List Entry) → IsAll before n at_end k → IfSome before (λ all. Begins (requests_in (take n all) at_end) k)
+begins-all before n at_end k a = mapped before _ (λ all. Begins (requests_in (take n all) at_end) k) (λ all e. ([], sym e ∙ sym (append-nil (requests k)))) a
+
+differs : (b : Bool) (A : Type 0) → b ≡ true → b ≡ false → A
+differs b A t f = let d : true ≡ false = sym t ∙ f in absurd (cc)
 
 -- a write failed or memory was wanting
 lost-other : (loss : Loss) → (status_of_loss loss ≡ WRITE_FAULT) ⊎ (status_of_loss loss ≡ NO_MEMORY)
@@ -57,22 +74,22 @@ lost-other WantOfMemory = inr refl
 not-answered : (status : ℕ) → (status ≡ WRITE_FAULT) ⊎ (status ≡ NO_MEMORY) → IsAnswered status → ⊥
 not-answered status (inl e) (inl d) = omega arith
 not-answered status (inl e) (inr (inl d)) = omega arith
-not-answered status (inl e) (inr (inr d)) = omega arith
+not-answered status (inl e) (inr (inr (inl d))) = omega arith
+not-answered status (inl e) (inr (inr (inr d))) = omega arith
 not-answered status (inr e) (inl d) = omega arith
 not-answered status (inr e) (inr (inl d)) = omega arith
-not-answered status (inr e) (inr (inr d)) = omega arith
+not-answered status (inr e) (inr (inr (inl d))) = omega arith
+not-answered status (inr e) (inr (inr (inr d))) = omega arith
 
-answered-of : (status : ℕ) → (status ≡ DONE) ⊎ (status ≡ TOO_LONG) → IsAnswered status
-answered-of status (inl e) = inl e
-answered-of status (inr e) = inr (inr e)
+answered-read : (status : ℕ) → (status ≡ DONE) ⊎ ((status ≡ TRUNCATED) ⊎ (status ≡ TOO_LONG)) → IsAnswered status
+answered-read status (inl e) = inl e
+answered-read status (inr e) = inr (inr e)
 
--- 3 is neither 0 nor 7
-fault-differs : (A : Type 0) → (READ_FAULT ≡ DONE) ⊎ (READ_FAULT ≡ TOO_LONG) → A
-fault-differs A (inl e) = absurd (omega arith)
-fault-differs A (inr e) = absurd (omega arith)
+answered-stop : (status : ℕ) → (status ≡ READ_FAULT) ⊎ (status ≡ TOO_LONG) → IsAnswered status
+answered-stop status (inl e) = inr (inl e)
+answered-stop status (inr e) = inr (inr (inr e))
 
-lost-fault : (loss : Loss) (o : Output) → IsLost loss o → status_of_loss loss ≡ WRITE_FAULT
-    → Rose o.first_faults o.faults
+lost-fault : (loss : Loss) (o : Output) → IsLost loss o → status_of_loss loss ≡ WRITE_FAULT → Rose o.first_faults o.faults
 lost-fault WriteFault o l e = l
 lost-fault WantOfMemory o l e = absurd (omega arith)
 
@@ -80,159 +97,169 @@ lost-known : (status : ℕ) → (status ≡ WRITE_FAULT) ⊎ (status ≡ NO_MEMO
 lost-known status (inl e) = inr (inr (inl e))
 lost-known status (inr e) = inr (inr (inr (inl e)))
 
-facts-lost : (bytes : List ℕ) (at_end : Bool) (loss : Loss) (k : List Entry) (o : Output) (r s : ℕ)
-    → Begins (items bytes at_end) k → IsLost loss o
-    → Facts bytes at_end (status_of_loss loss) k o r s
-facts-lost bytes at_end loss k o r s first lost =
+facts-lost : (before : Option (List ℕ)) (r s n : ℕ) (at_end : Bool) (loss : Loss) (k : List Entry) (o : Output)
+    → HasStopped (Lost loss) before r s n at_end k o → Facts before r s n at_end (status_of_loss loss) k o
+facts-lost before r s n at_end loss k o h =
     let status = status_of_loss loss in
     let other : (status ≡ WRITE_FAULT) ⊎ (status ≡ NO_MEMORY) = lost-other loss in
     let not : IsAnswered status → ⊥ = not-answered status other in
     record {
-      first = first;
+      first = h.0;
       whole = λ e. absurd (not e);
       clean = λ e. absurd (not e);
       ended = λ e q. absurd (not (inl e));
-      not_ended = λ e. absurd (not (inr e));
+      truncated_end = λ e. absurd (not (inr (inr (inl e))));
+      not_ended = λ e. absurd (not (answered-stop status e));
       done_only = λ e. absurd (not (inl e));
-      done_always = λ _. inr other;
+      done_which = λ e. absurd (not (inl e));
+      at_quit = λ _. inr other;
+      at_clean = each before _ (λ all c. inr other);
       read_fault = λ e. absurd (not (inr (inl e)));
-      reads = λ e. absurd (not (answered-of status e));
-      write_fault = lost-fault loss o lost;
-      long_only = λ e. absurd (not (inr (inr e)));
+      reads = λ e. absurd (not (answered-read status e));
+      write_fault = lost-fault loss o h.1;
+      truncated_only = λ e. absurd (not (inr (inr (inl e))));
+      truncated_always = each before _ (λ all t. inr other);
+      long_only = λ e. absurd (not (inr (inr (inr e))));
       long_always = λ _. inr other;
       known = lost-known status other;
     }
 
--- 0 is neither 3 nor 7
-done-differs : (A : Type 0) → (DONE ≡ READ_FAULT) ⊎ (DONE ≡ TOO_LONG) → A
-done-differs A (inl e) = absurd (omega arith)
-done-differs A (inr e) = absurd (omega arith)
+done-stops : (A : Type 0) → (DONE ≡ READ_FAULT) ⊎ (DONE ≡ TOO_LONG) → A
+done-stops A (inl e) = absurd (omega arith)
+done-stops A (inr e) = absurd (omega arith)
 
--- the input ended, and all was answered
-facts-end : (bytes : List ℕ) (k : List Entry) (o : Output) (r s : ℕ) → items bytes true ≡ requests k
-    → o.failed ≡ false → s ≡ r → Facts bytes true DONE k o r s
-facts-end bytes k o r s all clean same = record {
-  first = all-front bytes true k all;
-  whole = λ _. all;
-  clean = λ _. clean;
-  ended = λ _ _. refl;
-  not_ended = done-differs (true ≡ false);
-  done_only = λ _. inl refl;
-  done_always = λ _. inl refl;
+truncated-stops : (A : Type 0) → (TRUNCATED ≡ READ_FAULT) ⊎ (TRUNCATED ≡ TOO_LONG) → A
+truncated-stops A (inl e) = absurd (omega arith)
+truncated-stops A (inr e) = absurd (omega arith)
+
+fault-reads : (A : Type 0) → (READ_FAULT ≡ DONE) ⊎ ((READ_FAULT ≡ TRUNCATED) ⊎ (READ_FAULT ≡ TOO_LONG)) → A
+fault-reads A (inl e) = absurd (omega arith)
+fault-reads A (inr (inl e)) = absurd (omega arith)
+fault-reads A (inr (inr e)) = absurd (omega arith)
+
+facts-quit : (before : Option (List ℕ)) (r s n : ℕ) (at_end : Bool) (k : List Entry) (o : Output)
+    → HasStopped Quit before r s n at_end k o → Facts before r s n at_end DONE k o
+facts-quit before r s n at_end k o h = record {
+  first = begins-all before n at_end k h.0;
+  whole = λ _. h.0;
+  clean = λ _. h.2;
+  ended = λ e q. differs (place k).quit (at_end ≡ true) h.1 q;
+  truncated_end = λ e. absurd (omega arith);
+  not_ended = done-stops (at_end ≡ false);
+  done_only = λ _. inl h.1;
+  done_which = λ _. inl h.1;
+  at_quit = λ _. inl refl;
+  at_clean = each before _ (λ all c. inl refl);
   read_fault = λ e. absurd (omega arith);
-  reads = λ _. same;
+  reads = λ _. h.3;
   write_fault = λ e. absurd (omega arith);
+  truncated_only = λ e. absurd (omega arith);
+  truncated_always = each before _ (λ all t. differs (place k).quit _ h.1 t.no_quit);
   long_only = λ e. absurd (omega arith);
-  long_always = λ l. let e : true ≡ false = l.going_on in absurd (cc);
+  long_always = λ l. differs (place k).quit _ h.1 l.no_quit;
   known = inl refl;
 }
 
--- before the limit and without the end nothing is done
-not-done-short : (A : Type 0) (n : ℕ) (k : List Entry) → n < INPUT_LIMIT → IsDone n false k → A
-not-done-short A n k h (inl e) = absurd (cc)
-not-done-short A n k h (inr e) = absurd (omega (arith, e.0))
-
--- a read failed, and all was answered
-facts-fault : (bytes : List ℕ) (k : List Entry) (o : Output) (r s : ℕ) → items bytes false ≡ requests k
-    → o.failed ≡ false → Rose r s → length bytes < INPUT_LIMIT → Facts bytes false READ_FAULT k o r s
-facts-fault bytes k o r s all clean rose short = record {
-  first = all-front bytes false k all;
-  whole = λ _. all;
-  clean = λ _. clean;
-  ended = λ e q. absurd (omega arith);
-  not_ended = λ _. refl;
-  done_only = λ e. absurd (omega arith);
-  done_always = not-done-short _ (length bytes) k short;
-  read_fault = λ _. rose;
-  reads = fault-differs (s ≡ r);
+facts-clean : (before : Option (List ℕ)) (r s n : ℕ) (at_end : Bool) (k : List Entry) (o : Output)
+    → HasStopped (End Clean) before r s n at_end k o → Facts before r s n at_end DONE k o
+facts-clean before r s n at_end k o h = record {
+  first = begins-all before n at_end k h.0;
+  whole = λ _. h.0;
+  clean = λ _. h.2;
+  ended = λ e q. h.4;
+  truncated_end = λ e. absurd (omega arith);
+  not_ended = done-stops (at_end ≡ false);
+  done_only = λ _. inr (mapped before _ (λ all. IsClean all n at_end k) (λ all e. record { ended = h.4; no_quit = h.1; clean = subst EndsClean (sym e) tt }) h.5);
+  done_which = λ _. inr h.4;
+  at_quit = λ _. inl refl;
+  at_clean = each before _ (λ all c. inl refl);
+  read_fault = λ e. absurd (omega arith);
+  reads = λ _. h.3;
   write_fault = λ e. absurd (omega arith);
+  truncated_only = λ e. absurd (omega arith);
+  truncated_always = mapped before _ (λ all. IsTruncated all n at_end k → IsOrLost DONE TRUNCATED) (λ all e t. absurd (subst EndsInside e t.inside)) h.5;
   long_only = λ e. absurd (omega arith);
-  long_always = λ l. absurd (omega (arith, l.full));
+  long_always = λ l. differs at_end _ h.4 l.going_on;
+  known = inl refl;
+}
+
+facts-truncated : (before : Option (List ℕ)) (r s n : ℕ) (at_end : Bool) (p : ℕ) (k : List Entry) (o : Output)
+    → HasStopped (End (Truncated p)) before r s n at_end k o → Facts before r s n at_end TRUNCATED k o
+facts-truncated before r s n at_end p k o h = record {
+  first = begins-all before n at_end k h.0;
+  whole = λ _. h.0;
+  clean = λ _. h.2;
+  ended = λ e q. h.4;
+  truncated_end = λ _. h.4;
+  not_ended = truncated-stops (at_end ≡ false);
+  done_only = λ e. absurd (omega arith);
+  done_which = λ e. absurd (omega arith);
+  at_quit = λ q. differs (place k).quit _ q h.1;
+  at_clean = mapped before _ (λ all. IsClean all n at_end k → IsOrLost TRUNCATED DONE) (λ all e c. absurd (subst EndsClean e c.clean)) h.5;
+  read_fault = λ e. absurd (omega arith);
+  reads = λ _. h.3;
+  write_fault = λ e. absurd (omega arith);
+  truncated_only = λ _. mapped before _ (λ all. IsTruncated all n at_end k) (λ all e. record { ended = h.4; no_quit = h.1; inside = subst EndsInside (sym e) tt }) h.5;
+  truncated_always = each before _ (λ all t. inl refl);
+  long_only = λ e. absurd (omega arith);
+  long_always = λ l. differs at_end _ h.4 l.going_on;
+  known = inr (inr (inr (inr (inl refl))));
+}
+
+facts-fault : (before : Option (List ℕ)) (r s n : ℕ) (at_end : Bool) (k : List Entry) (o : Output)
+    → HasStopped Fault before r s n at_end k o → Facts before r s n at_end READ_FAULT k o
+facts-fault before r s n at_end k o h = record {
+  first = begins-all before n at_end k h.0;
+  whole = λ _. h.0;
+  clean = λ _. h.2;
+  ended = λ e q. absurd (omega arith);
+  truncated_end = λ e. absurd (omega arith);
+  not_ended = λ _. h.4;
+  done_only = λ e. absurd (omega arith);
+  done_which = λ e. absurd (omega arith);
+  at_quit = λ q. differs (place k).quit _ q h.1;
+  at_clean = each before _ (λ all c. differs at_end _ c.ended h.4);
+  read_fault = λ _. h.3;
+  reads = fault-reads (s ≡ r);
+  write_fault = λ e. absurd (omega arith);
+  truncated_only = λ e. absurd (omega arith);
+  truncated_always = each before _ (λ all t. differs at_end _ t.ended h.4);
+  long_only = λ e. absurd (omega arith);
+  long_always = λ l. absurd (let few : n < INPUT_LIMIT = h.5 in omega (arith, l.full));
   known = inr (inl refl);
 }
 
--- without the end and without Quit nothing is done
-not-done-going : (A : Type 0) (n : ℕ) (k : List Entry) → (place k).quit ≡ false → IsDone n false k → A
-not-done-going A n k g (inl e) = absurd (cc)
-not-done-going A n k g (inr e) = let d : true ≡ false = sym e.1 ∙ g in absurd (cc)
-
--- the limit was taken, and all was answered, without Quit
-facts-limit : (bytes : List ℕ) (k : List Entry) (o : Output) (r s : ℕ) → items bytes false ≡ requests k
-    → (place k).quit ≡ false → o.failed ≡ false → length bytes ≡ INPUT_LIMIT → s ≡ r
-    → Facts bytes false TOO_LONG k o r s
-facts-limit bytes k o r s all going clean full same = record {
-  first = all-front bytes false k all;
-  whole = λ _. all;
-  clean = λ _. clean;
+facts-limit : (before : Option (List ℕ)) (r s n : ℕ) (at_end : Bool) (k : List Entry) (o : Output)
+    → HasStopped Limit before r s n at_end k o → Facts before r s n at_end TOO_LONG k o
+facts-limit before r s n at_end k o h = record {
+  first = begins-all before n at_end k h.0;
+  whole = λ _. h.0;
+  clean = λ _. h.2;
   ended = λ e q. absurd (omega arith);
-  not_ended = λ _. refl;
+  truncated_end = λ e. absurd (omega arith);
+  not_ended = λ _. h.4;
   done_only = λ e. absurd (omega arith);
-  done_always = not-done-going _ (length bytes) k going;
+  done_which = λ e. absurd (omega arith);
+  at_quit = λ q. differs (place k).quit _ q h.1;
+  at_clean = each before _ (λ all c. differs at_end _ c.ended h.4);
   read_fault = λ e. absurd (omega arith);
-  reads = λ _. same;
+  reads = λ _. h.3;
   write_fault = λ e. absurd (omega arith);
-  long_only = λ _. record { full = full; going_on = refl; no_quit = going };
+  truncated_only = λ e. absurd (omega arith);
+  truncated_always = each before _ (λ all t. differs at_end _ t.ended h.4);
+  long_only = λ _. record { full = h.5; going_on = h.4; no_quit = h.1 };
   long_always = λ _. inl refl;
-  known = inr (inr (inr (inr refl)));
+  known = inr (inr (inr (inr (inr refl))));
 }
 
--- the limit was taken, and all was answered up to Quit
-facts-quit : (bytes : List ℕ) (k : List Entry) (o : Output) (r s : ℕ) → items bytes false ≡ requests k
-    → (place k).quit ≡ true → o.failed ≡ false → length bytes ≡ INPUT_LIMIT → s ≡ r → Facts bytes false DONE k o r s
-facts-quit bytes k o r s all quit clean full same = record {
-  first = all-front bytes false k all;
-  whole = λ _. all;
-  clean = λ _. clean;
-  ended = λ e q. let d : true ≡ false = sym quit ∙ q in absurd (cc);
-  not_ended = done-differs (false ≡ false);
-  done_only = λ _. inr (full, quit);
-  done_always = λ _. inl refl;
-  read_fault = λ e. absurd (omega arith);
-  reads = λ _. same;
-  write_fault = λ e. absurd (omega arith);
-  long_only = λ e. absurd (omega arith);
-  long_always = λ l. let d : true ≡ false = sym quit ∙ l.no_quit in absurd (cc);
-  known = inl refl;
-}
-
-facts : (stop : Stop) (answered : Answered) (bytes : List ℕ) (now : Option (List ℕ)) (k : List Entry) (o : Output)
-    (r s : ℕ)
-    → IsStopped stop now r s (length bytes) → IsServed answered (items bytes (has_ended stop)) k o
-    → Facts bytes (has_ended stop) (status_of stop answered) k o r s
-facts stop (Lost loss) bytes now k o r s h a = facts-lost bytes (has_ended stop) loss k o r s a.0 a.1
-facts End All bytes now k o r s h a = facts-end bytes k o r s a.0 a.2 h.1
-facts End Quit bytes now k o r s h a = facts-end bytes k o r s a.0 a.2 h.1
-facts Fault All bytes now k o r s h a = facts-fault bytes k o r s a.0 a.2 h.0 h.1
-facts Fault Quit bytes now k o r s h a = facts-fault bytes k o r s a.0 a.2 h.0 h.1
-facts Limit All bytes now k o r s h a = facts-limit bytes k o r s a.0 a.1 a.2 h.0 h.1
-facts Limit Quit bytes now k o r s h a = facts-quit bytes k o r s a.0 a.1 a.2 h.0 h.1
-facts NoMemory All bytes now k o r s h a = facts-lost bytes false WantOfMemory k o r s (all-front bytes false k a.0) tt
-facts NoMemory Quit bytes now k o r s h a = facts-lost bytes false WantOfMemory k o r s (all-front bytes false k a.0) tt
-
--- ---- the bytes that were taken
-
-taken-is : (before now : Option (List ℕ)) (bytes : List ℕ) → Consumes before now bytes
-    → IfSome before (λ all. IsTaken all now (length bytes))
-taken-is None now bytes c = tt
-taken-is (Some all) None bytes c = absurd c
-taken-is (Some all) (Some rest) bytes c = record {
-  within = omega (arith, ap length c, length-append bytes rest);
-  rest = ap Some (sym (ap (drop (length bytes)) c ∙ drop_at bytes rest (length bytes) refl));
-}
-
--- what holds of the bytes taken holds of the first bytes of the source
-at-taken : (P : List ℕ → Type 0) (before now : Option (List ℕ)) (bytes : List ℕ) → Consumes before now bytes → P bytes
-    → IfSome before (λ all. P (take (length bytes) all))
-at-taken P None now bytes c p = tt
-at-taken P (Some all) None bytes c p = absurd c
-at-taken P (Some all) (Some rest) bytes c p = subst P (sym (ap (take (length bytes)) c ∙ take_at bytes rest (length bytes) refl)) p
-
-nothing-left : (stop : Stop) (now : Option (List ℕ)) (r s n : ℕ) → IsStopped stop now r s n → has_ended stop ≡ true
-    → IsAtEnd now
-nothing-left End now r s n h e = h.0
-nothing-left Fault now r s n h e = absurd (cc)
-nothing-left Limit now r s n h e = absurd (cc)
-nothing-left NoMemory now r s n h e = absurd (cc)
+facts : (stop : Stop) (before : Option (List ℕ)) (r s n : ℕ) (at_end : Bool) (k : List Entry) (o : Output)
+    → HasStopped stop before r s n at_end k o → Facts before r s n at_end (status_of stop) k o
+facts Quit before r s n at_end k o h = facts-quit before r s n at_end k o h
+facts (End Clean) before r s n at_end k o h = facts-clean before r s n at_end k o h
+facts (End (Truncated p)) before r s n at_end k o h = facts-truncated before r s n at_end p k o h
+facts Fault before r s n at_end k o h = facts-fault before r s n at_end k o h
+facts Limit before r s n at_end k o h = facts-limit before r s n at_end k o h
+facts (Lost loss) before r s n at_end k o h = facts-lost before r s n at_end loss k o h
 
 -- ---- the bytes that were written
 
@@ -252,7 +279,7 @@ not-failed true f g h r = let rose : Rose f g = r refl in absurd (omega arith)
 
 has_short-append : (xs ys : List Line) → has_short (xs ++ ys) ≡ (has_short xs || has_short ys)
 has_short-append [] ys = refl
-has_short-append (x ∷ xs) ys = ap (λ b. is_short_reply x.reply || b) (has_short-append xs ys) ∙ grouped (is_short_reply x.reply) (has_short xs) (has_short ys)
+has_short-append (x ∷ xs) ys = ap (λ b. is_short x || b) (has_short-append xs ys) ∙ grouped (is_short x) (has_short xs) (has_short ys)
   where
     grouped : (a b c : Bool) → (a || (b || c)) ≡ ((a || b) || c)
     grouped true b c = refl
@@ -270,23 +297,19 @@ or-true : (a b : Bool) → b ≡ true → (a || b) ≡ true
 or-true true b e = refl
 or-true false b e = e
 
-tagged-append : (n : ℕ) (xs ys : List Reply) → tagged n (xs ++ ys) ≡ tagged n xs ++ tagged n ys
-tagged-append n [] ys = refl
-tagged-append n (x ∷ xs) ys = ap (λ ls. record { tag = n; reply = x } ∷ ls) (tagged-append n xs ys)
-
-whole-cut : (d : Document) (q : Request) (cut : Cut) → has_short (answer d q cut).lines ≡ false → cut ≡ Whole
-whole-cut d q Whole e = refl
-whole-cut d q (After n) e =
-    let xs = replies_to d q.item (After n) in
-    let short : has_short (tagged q.tag (xs ++ last_replies (After n))) ≡ true =
-    ap has_short (tagged-append q.tag xs (last_replies (After n))) ∙ has_short-append (tagged q.tag xs) (tagged q.tag (last_replies (After n))) ∙ or-true (has_short (tagged q.tag xs)) true refl in
+whole-cut : (d : Document) (q : Request) (cut : Cut) → MayBe q cut → has_short (answer d q cut).lines ≡ false → cut ≡ Whole
+whole-cut d q Whole may e = refl
+whole-cut d (Bad b) (After n) may e = absurd may
+whole-cut d (Do t) (After n) may e =
+    let xs = command_lines d t.tag t.command (After n) in
+    let short : has_short (xs ++ last_lines t.tag (After n)) ≡ true = has_short-append xs (last_lines t.tag (After n)) ∙ or-true (has_short xs) true refl in
     let d : true ≡ false = sym short ∙ e in
     absurd (cc)
 
 all_whole : (p : Place) (h : List Entry) → LegalFrom p h → any_short h ≡ false → AllWhole (outcomes h)
 all_whole p [] l e = tt
 all_whole p (Command n q cut ls ∷ es) l e = (
-  whole-cut p.document q cut (ap has_short (sym l.0.lines) ∙ or-left (has_short ls) (any_short es) e),
+  whole-cut p.document q cut l.0.may (ap has_short (sym l.0.lines) ∙ or-left (has_short ls) (any_short es) e),
   all_whole (step p (Command n q cut ls)) es l.1 (or-right (has_short ls) (any_short es) e),
 )
 all_whole p (Close ∷ es) l e = all_whole (step p Close) es l.1 e
@@ -299,9 +322,10 @@ pub record Told (before now : Option (List ℕ)) (r s : ℕ) (old new : Option (
   pub written : HasWritten old new f g status h
   pub one_thread : IsOneThread h
   pub known : IsStatus status
-  pub done : HasDoneCause status taken at_end h
+  pub done : HasDoneCause before status taken at_end h
   pub read_fault : HasReadFaultCause r s status
   pub write_fault : HasWriteFaultCause f g status
+  pub truncated : HasTruncatedCause before status taken at_end h
   pub too_long : HasTooLongCause status taken at_end h
   pub complete : HasCompleteness before r s f g status taken at_end h
 
@@ -321,56 +345,74 @@ render-closed h = render-grown h Close ∙ append-nil (render h)
 quit-closed : (h : List Entry) → (place (h ++ Close ∷ [])).quit ≡ (place h).quit
 quit-closed h = ap (λ (p : Place). p.quit) (place-grown start h Close)
 
-done-closed : (n : ℕ) (e : Bool) (h k : List Entry) → (place k).quit ≡ (place h).quit → IsDone n e h → IsDone n e k
-done-closed n e h k q (inl d) = inl d
-done-closed n e h k q (inr d) = inr (d.0, q ∙ d.1)
-
 completed : (before : Option (List ℕ)) (r s f g status taken : ℕ) (at_end : Bool) (h : List Entry) → IsStatus status
     → (status ≡ READ_FAULT → Rose r s) → (status ≡ WRITE_FAULT → Rose f g)
-    → (IsAnswered status → IfSome before (λ all. requests h ≡ items (take taken all) at_end))
+    → (IsAnswered status → IsAll before taken at_end h)
     → (any_short h ≡ false → AllWhole (outcomes h))
-    → (status ≡ DONE → IsDone taken at_end h) → (status ≡ TOO_LONG → IsTooLong taken at_end h)
+    → (status ≡ DONE → IsQuit h ⊎ (at_end ≡ true)) → (status ≡ TRUNCATED → at_end ≡ true) → (status ≡ TOO_LONG → IsTooLong taken at_end h)
     → HasCompleteness before r s f g status taken at_end h
-completed before r s f g status taken at_end h (inl e) reads writes all whole done long sr sf = inr (inr (record { all = all (inl e); whole = whole; which = inl (e, done e) }))
-completed before r s f g status taken at_end h (inr (inl e)) reads writes all whole done long sr sf = absurd (let rose : Rose r s = reads e in omega arith)
-completed before r s f g status taken at_end h (inr (inr (inl e))) reads writes all whole done long sr sf = absurd (let rose : Rose f g = writes e in omega arith)
-completed before r s f g status taken at_end h (inr (inr (inr (inl e)))) reads writes all whole done long sr sf = inr (inl e)
-completed before r s f g status taken at_end h (inr (inr (inr (inr e)))) reads writes all whole done long sr sf = inr (inr (record { all = all (inr (inr e)); whole = whole; which = inr (e, long e) }))
+completed before r s f g status taken at_end h (inl e) reads writes all whole done cut long sr sf = inr (inr (record { all = all (inl e); whole = whole; which = inl (e, done e) }))
+completed before r s f g status taken at_end h (inr (inl e)) reads writes all whole done cut long sr sf = absurd (let rose : Rose r s = reads e in omega arith)
+completed before r s f g status taken at_end h (inr (inr (inl e))) reads writes all whole done cut long sr sf = absurd (let rose : Rose f g = writes e in omega arith)
+completed before r s f g status taken at_end h (inr (inr (inr (inl e)))) reads writes all whole done cut long sr sf = inr (inl e)
+completed before r s f g status taken at_end h (inr (inr (inr (inr (inl e))))) reads writes all whole done cut long sr sf = inr (inr (record { all = all (inr (inr (inl e))); whole = whole; which = inr (inl (e, cut e)) }))
+completed before r s f g status taken at_end h (inr (inr (inr (inr (inr e))))) reads writes all whole done cut long sr sf = inr (inr (record { all = all (inr (inr (inr e))); whole = whole; which = inr (inr (e, long e)) }))
 
 clean-from : (status f g : ℕ) (failed : Bool) → (IsAnswered status → failed ≡ false) → (failed ≡ true → Rose f g)
     → Stood f g ⊎ IsAnswered status → failed ≡ false
 clean-from status f g failed a r (inl h) = not-failed failed f g h r
 clean-from status f g failed a r (inr h) = a h
 
-told : (before now : Option (List ℕ)) (r s : ℕ) (bytes : List ℕ) (stop : Stop) (answered : Answered) (k : List Entry)
-    (o : Output)
-    → Consumes before now bytes → length bytes ≤ INPUT_LIMIT → IsStopped stop now r s (length bytes)
-    → IsServed answered (items bytes (has_ended stop)) k o
-    → (o.failed ≡ true → Rose o.first_faults o.faults) → Legal k → (place k).closed ≡ false
+first-closed : (before : Option (List ℕ)) (n : ℕ) (e : Bool) (k : List Entry) → IfSome before (λ all. Begins (requests_in (take n all) e) k)
+    → IfSome before (λ all. take (length (requests (k ++ Close ∷ []))) (requests_in (take n all) e) ≡ requests (k ++ Close ∷ []))
+first-closed before n e k b =
+    mapped before _ (λ all. take (length (requests (k ++ Close ∷ []))) (requests_in (take n all) e) ≡ requests (k ++ Close ∷ []))
+    (λ all f. ap (λ q. take (length q) (requests_in (take n all) e)) (requests-closed k) ∙ ap (take (length (requests k))) f.1 ∙ take-append_seam (requests k) f.0 ∙ sym (requests-closed k)) b
+
+all-closed : (before : Option (List ℕ)) (n : ℕ) (e : Bool) (k : List Entry) → IsAll before n e k → IsAll before n e (k ++ Close ∷ [])
+all-closed before n e k a = mapped before _ (λ all. requests (k ++ Close ∷ []) ≡ requests_in (take n all) e) (λ all f. requests-closed k ∙ f) a
+
+clean-closed : (all : List ℕ) (n : ℕ) (e : Bool) (h k : List Entry) → (place k).quit ≡ (place h).quit → IsClean all n e h → IsClean all n e k
+clean-closed all n e h k q c = record { ended = c.ended; no_quit = q ∙ c.no_quit; clean = c.clean }
+
+truncated-closed : (all : List ℕ) (n : ℕ) (e : Bool) (h k : List Entry) → (place k).quit ≡ (place h).quit → IsTruncated all n e h → IsTruncated all n e k
+truncated-closed all n e h k q c = record { ended = c.ended; no_quit = q ∙ c.no_quit; inside = c.inside }
+
+long-closed : (n : ℕ) (e : Bool) (h k : List Entry) → (place k).quit ≡ (place h).quit → IsTooLong n e h → IsTooLong n e k
+long-closed n e h k q c = record { full = c.full; going_on = c.going_on; no_quit = q ∙ c.no_quit }
+
+done-closed : (before : Option (List ℕ)) (n : ℕ) (e : Bool) (h k : List Entry) → (place k).quit ≡ (place h).quit
+    → IsQuit h ⊎ IfSome before (λ all. IsClean all n e h) → IsQuit k ⊎ IfSome before (λ all. IsClean all n e k)
+done-closed before n e h k q (inl d) = inl (q ∙ d)
+done-closed before n e h k q (inr d) = inr (mapped before _ (λ all. IsClean all n e k) (λ all c. clean-closed all n e h k q c) d)
+
+which-closed : (e : Bool) (h k : List Entry) → (place k).quit ≡ (place h).quit → IsQuit h ⊎ (e ≡ true) → IsQuit k ⊎ (e ≡ true)
+which-closed e h k q (inl d) = inl (q ∙ d)
+which-closed e h k q (inr d) = inr d
+
+told : (before now : Option (List ℕ)) (r s n : ℕ) (at_end : Bool) (stop : Stop) (k : List Entry) (o : Output)
+    → Served before now r s n at_end stop k o → (o.failed ≡ true → Rose o.first_faults o.faults) → Legal k → (place k).closed ≡ false
     → IsPut (fresh o) (render k) o
-    → Told before now r s o.first_written o.written o.first_faults o.faults (status_of stop answered) (length bytes)
-    (has_ended stop) (k ++ Close ∷ [])
-told before now r s bytes stop answered k o taken limit stopped served cause legal going put =
+    → Told before now r s o.first_written o.written o.first_faults o.faults (status_of stop) n at_end (k ++ Close ∷ [])
+told before now r s n e stop k o served cause legal going put =
     let h = k ++ Close ∷ [] in
-    let e = has_ended stop in
-    let status = status_of stop answered in
-    let f : Facts bytes e status k o r s = facts stop answered bytes now k o r s stopped served in
+    let status = status_of stop in
+    let f : Facts before r s n e status k o = facts stop before r s n e k o served.stopped in
     let legal_h : Legal h = legal-grown start k Close legal going in
-    let all_h : IsAnswered status → IfSome before (λ all. requests h ≡ items (take (length bytes) all) e) =
-    λ a. at-taken (λ b. requests h ≡ items b e) before now bytes taken (requests-closed k ∙ sym (f.whole a)) in
-    let done_h : status ≡ DONE → IsDone (length bytes) e h = λ d. done-closed (length bytes) e k h (quit-closed k) (f.done_only d) in
-    let long_h : status ≡ TOO_LONG → IsTooLong (length bytes) e h = λ d. let l = f.long_only d in record { full = l.full; going_on = l.going_on; no_quit = quit-closed k ∙ l.no_quit } in
+    let same : (place h).quit ≡ (place k).quit = quit-closed k in
+    let all_h : IsAnswered status → IsAll before n e h = λ a. all-closed before n e k (f.whole a) in
+    let long_h : status ≡ TOO_LONG → IsTooLong n e h = λ d. long-closed n e k h same (f.long_only d) in
     record {
-      legal = legal-closed status (length bytes) k legal going;
+      legal = legal-closed status n k legal going;
       read = record {
-        taken_bytes = taken-is before now bytes taken;
-        first = at-taken (λ b. take (length (requests h)) (items b e) ≡ requests h) before now bytes taken
-            (ap (λ q. take (length q) (items bytes e)) (requests-closed k) ∙ ap (take (length (requests k))) f.first.1 ∙ take-append_seam (requests k) f.first.0 ∙ sym (requests-closed k));
+        taken_bytes = served.taken_bytes;
+        first = first-closed before n e k f.first;
         whole = all_h;
-        nothing_left = nothing-left stop now r s (length bytes) stopped;
-        ended = λ d q. f.ended d (sym (quit-closed k) ∙ q);
+        nothing_left = served.nothing_left;
+        ended = λ d q. f.ended d (sym same ∙ q);
+        truncated_end = f.truncated_end;
         not_ended = f.not_ended;
-        limit = limit;
+        limit = served.limit;
       };
       written = record {
         whole = λ w. rw (render-closed k) (written-all false o.failed _ _ _ refl (clean-from status o.first_faults o.faults o.failed f.clean cause w) put.grew);
@@ -378,23 +420,28 @@ told before now r s bytes stop answered k o taken limit stopped served cause leg
       };
       one_thread = one_thread start h legal_h;
       known = f.known;
-      done = record { only = done_h; always = λ d. f.done_always (done-closed (length bytes) e h k (sym (quit-closed k)) d) };
+      done = record {
+        only = λ d. done-closed before n e k h same (f.done_only d);
+        at_quit = λ q. f.at_quit (sym same ∙ q);
+        at_clean = mapped before _ (λ all. IsClean all n e h → IsOrLost status DONE) (λ all g c. g (clean-closed all n e h k (sym same) c)) f.at_clean;
+      };
       read_fault = record { only = f.read_fault; passed = f.reads };
       write_fault = record { only = f.write_fault; passed = λ a. put.passed (f.clean a) };
-      too_long = record { only = long_h; always = λ l. f.long_always (record { full = l.full; going_on = l.going_on; no_quit = sym (quit-closed k) ∙ l.no_quit }) };
-      complete = completed before r s o.first_faults o.faults status (length bytes) e h f.known f.read_fault f.write_fault all_h (all_whole start h legal_h) done_h long_h;
+      truncated = record {
+        only = λ d. mapped before _ (λ all. IsTruncated all n e h) (λ all t. truncated-closed all n e k h same t) (f.truncated_only d);
+        always = mapped before _ (λ all. IsTruncated all n e h → IsOrLost status TRUNCATED) (λ all g t. g (truncated-closed all n e h k (sym same) t)) f.truncated_always;
+      };
+      too_long = record { only = long_h; always = λ l. f.long_always (long-closed n e h k (sym same) l) };
+      complete = completed before r s o.first_faults o.faults status n e h f.known f.read_fault f.write_fault all_h (all_whole start h legal_h)
+          (λ d. which-closed e k h same (f.done_which d)) f.truncated_end long_h;
     }
 
--- the same, as the code comes to it: n is how many bytes were taken
-pub told-is : (before now : Option (List ℕ)) (r s : ℕ) (bytes : List ℕ) (n : ℕ) (stop : Stop) (answered : Answered)
-    (k : List Entry) (o : Output) (old new : Option (List ℕ)) (f g status taken : ℕ) (at_end : Bool) (h : List Entry)
-    → Consumes before now bytes → n ≡ length bytes → n ≤ INPUT_LIMIT → IsStopped stop now r s n
-    → IsServed answered (items bytes (has_ended stop)) k o
-    → (o.failed ≡ true → Rose o.first_faults o.faults) → Legal k → (place k).closed ≡ false
+-- the same, as the code comes to it
+pub told-is : (before now : Option (List ℕ)) (r s n : ℕ) (at_end : Bool) (stop : Stop) (k : List Entry) (o : Output)
+    (old new : Option (List ℕ)) (f g status : ℕ) (h : List Entry)
+    → Served before now r s n at_end stop k o → (o.failed ≡ true → Rose o.first_faults o.faults) → Legal k → (place k).closed ≡ false
     → IsPut (fresh o) (render k) o
-    → old ≡ o.first_written → new ≡ o.written → f ≡ o.first_faults → g ≡ o.faults → status ≡ status_of stop answered
-    → taken ≡ n → at_end ≡ has_ended stop → h ≡ k ++ Close ∷ []
-    → Told before now r s old new f g status taken at_end h
-told-is before now r s bytes n stop answered k o old new f g status taken at_end h consumed count limit stopped served cause legal going put a b c d e t z entries =
-    rw (a, b, c, d, e, t ∙ count, z, entries)
-    (told before now r s bytes stop answered k o consumed (subst (λ m. m ≤ INPUT_LIMIT) count limit) (subst (IsStopped stop now r s) count stopped) served cause legal going put)
+    → old ≡ o.first_written → new ≡ o.written → f ≡ o.first_faults → g ≡ o.faults → status ≡ status_of stop → h ≡ k ++ Close ∷ []
+    → Told before now r s old new f g status n at_end h
+told-is before now r s n at_end stop k o old new f g status h served cause legal going put a b c d e entries =
+    rw (a, b, c, d, e, entries) (told before now r s n at_end stop k o served cause legal going put)

@@ -1,36 +1,18 @@
--- Lists of lines, and histories with one more entry at their end.
+-- Histories with one more entry at their end.
 use Rattle.std.proofs.Common.{◌≡◌, ℕ, ◌+◌, ◌<◌, List, [], ◌∷◌, ◌++◌, length, take, get_or, Option, false, refl, sym, ap, ◌∙◌, subst, append_assoc, append-nil, arith}
-use Rattle.std.proofs.lemmas.List.{take_more, length_push}
+use Rattle.std.proofs.lemmas.List.{length_push, take_more}
 use Rattle.stm_base.specs.Output.{Output, IsPut, begun, fresh}
 use Rattle.stm_base.proofs.Puts.{IsPut-both}
-use Rattle.sexp_core.specs.declared.line_item.FirstItem.{FirstItem}
-use Rattle.session_run.specs.Lines.{text_of, texts}
-use Rattle.session_run.specs.Answers.{Document, MayBe, answer, answers_from, done_names, last_replies, tagged}
-use Rattle.session_run.specs.Histories.{Place, start, step, Asks, place_from, place, LegalFrom, rendered, render, requests, outcomes}
-use Rattle.session_run.specs.Sessions.{IsKept, IsPlan, asked, asked_request, listed, TakesIn}
-use Rattle.session_run.specs.declared.request.Request.{Request}
-use Rattle.session_run.specs.declared.request.Cut.{Cut}
-use Rattle.session_run.specs.declared.line.Line.{Line}
-use Rattle.session_run.specs.declared.line.Reply.{Reply}
-use Rattle.session_run.specs.declared.line.Reply.TheVariants as reply
+use Rattle.serapi_cmd.specs.declared.request.Request.{Request}
+use Rattle.serapi_ans.specs.Lines.{line_text, lines_text}
+use Rattle.serapi_ans.specs.declared.line.Line.{Line}
+use Rattle.session_run.specs.Answers.{Document, MayBe, answer, answers_from, done_names, request_lines}
+use Rattle.session_run.specs.Histories.{Place, start, step, Asks, IsNumbered, place_from, place, LegalFrom, rendered, render, requests, outcomes}
+use Rattle.session_run.specs.Plans.{IsPlanned, listed}
+use Rattle.session_run.specs.Serving.{IsKept, TakesIn, asked}
+use Rattle.session_run.specs.declared.cut.Cut.{Cut}
 use Rattle.session_run.specs.declared.history.Entry.{Entry}
 use Rattle.session_run.specs.declared.history.Entry.TheVariants.{Command, Close}
-
--- ---- lines
-
-texts-append : (ks ls : List Line) → texts (ks ++ ls) ≡ texts ks ++ texts ls
-texts-append [] ls = refl
-texts-append (k ∷ ks) ls = ap (λ t. text_of k ++ t) (texts-append ks ls) ∙ sym (append_assoc (text_of k) (texts ks) (texts ls))
-
--- the text of one line more
-texts_more : (ls : List Line) (i : ℕ) (l : Line) → i < length ls
-    → texts (take (i + 1) ls) ≡ texts (take i ls) ++ text_of (get_or ls i l)
-texts_more ls i l h = ap texts (take_more ls i l h) ∙ texts-append (take i ls) (get_or ls i l ∷ []) ∙ ap (λ t. texts (take i ls) ++ t) (append-nil (text_of (get_or ls i l)))
-
--- the same, as a loop comes to it
-pub texts_step : (a b : List ℕ) (ls : List Line) (i : ℕ) (l : Line) → i < length ls → a ≡ texts (take i ls)
-    → b ≡ a ++ text_of (get_or ls i l) → b ≡ texts (take (i + 1) ls)
-texts_step a b ls i l h e f = f ∙ ap (λ t. t ++ text_of (get_or ls i l)) e ∙ sym (texts_more ls i l h)
 
 -- ---- histories
 
@@ -58,21 +40,12 @@ requests-closed [] = refl
 requests-closed (Command m r c ks ∷ es) = ap (λ t. r ∷ t) (requests-closed es)
 requests-closed (Close ∷ es) = requests-closed es
 
--- a place has counted the requests
-commands_from : (p : Place) (es : List Entry) → (place_from p es).commands ≡ p.commands + length (requests es)
-commands_from p [] = omega arith
-commands_from p (Command n q cut ls ∷ es) = omega (arith, commands_from (step p (Command n q cut ls)) es)
-commands_from p (Close ∷ es) = commands_from (step p Close) es
-
-pub commands_are : (es : List Entry) → (place es).commands ≡ length (requests es)
-commands_are es = omega (arith, commands_from start es)
-
 -- what a legal history renders is what the one-thread document answers
 pub one_thread : (p : Place) (es : List Entry) → LegalFrom p es
     → render es ≡ answers_from p.document (requests es) (outcomes es)
 one_thread p [] l = refl
 one_thread p (Command n q cut ls ∷ es) l =
-    ap (λ z. texts z ++ render es) l.0.lines ∙ ap (λ t. texts (answer p.document q cut).lines ++ t) (one_thread (step p (Command n q cut ls)) es l.1)
+    ap (λ z. lines_text z ++ render es) l.0.lines ∙ ap (λ t. lines_text (answer p.document q cut).lines ++ t) (one_thread (step p (Command n q cut ls)) es l.1)
 one_thread p (Close ∷ es) l = one_thread (step p Close) es l.1
 
 -- ---- a command of a kept session
@@ -81,47 +54,62 @@ same-start : (o p : Output) → p.first_written ≡ o.first_written → p.first_
 same-start o p w f = sym (ap (λ v. begun v p.first_faults) w ∙ ap (begun o.first_written) f)
 
 -- a kept session takes the entry that its place asks for
-kept-grown : (es : List Entry) (spare more : ℕ) (d : Document) (o p : Output) (item : FirstItem) (cut : Cut)
-    → IsKept es spare d o → (place es).quit ≡ false → MayBe item cut
-    → IsPut o (texts (answer (place es).document (asked_request (place es) item) cut).lines) p → 0 < more
-    → IsKept (es ++ asked (place es) item cut ∷ []) more (d ++ done_names item cut) p
-kept-grown es spare more d o p item cut k going may put room =
-    let e = asked (place es) item cut in
+kept-grown : (es : List Entry) (spare more : ℕ) (d : Document) (o p : Output) (q : Request) (cut : Cut)
+    → IsKept es spare d o → (place es).quit ≡ false → IsNumbered (place es).commands q → MayBe q cut
+    → IsPut o (lines_text (answer (place es).document q cut).lines) p → 0 < more
+    → IsKept (es ++ asked (place es) q cut ∷ []) more (d ++ done_names q cut) p
+kept-grown es spare more d o p q cut k going numbered may put room =
+    let e = asked (place es) q cut in
     let at = place-grown start es e in
     record {
       stands = record {
-        legal = legal-grown start es e k.stands.legal (record { going = k.stands.not_closed; no_quit = going; place = refl; tag = refl; may = may; lines = refl });
+        legal = legal-grown start es e k.stands.legal (record { going = k.stands.not_closed; no_quit = going; place = refl; numbered = numbered; may = may; lines = refl });
         not_closed = ap (λ (s : Place). s.closed) at ∙ k.stands.not_closed;
         put = rw (render-grown es e) (subst (λ z. IsPut z (render es ++ rendered e) p) (same-start o p put.first_written put.first_faults) (IsPut-both _ o p _ _ k.stands.put put));
       };
-      document = ap (λ t. t ++ done_names item cut) k.document ∙ sym (ap (λ (s : Place). s.document) at);
+      document = ap (λ t. t ++ done_names q cut) k.document ∙ sym (ap (λ (s : Place). s.document) at);
       commands = ap (λ (s : Place). s.commands) at ∙ ap (λ n. n + 1) k.commands ∙ sym (length_push es e);
       room = room;
     }
 
 -- the same, as the code comes to it
-pub kept-command : (es fs : List Entry) (spare more : ℕ) (d e : Document) (o p : Output) (item : FirstItem) (cut : Cut)
-    (name : Option (List ℕ)) (said : Option Reply) (ls : List Line) (n : ℕ)
-    → IsKept es spare d o → (place es).quit ≡ false → IsPlan d item cut name said → n ≡ length es
-    → ls ≡ tagged n (reply.Ack ∷ listed said ++ last_replies cut)
-    → IsPut o (texts ls) p → e ≡ d ++ listed name → fs ≡ es ++ Command n (record { tag = n; item = item }) cut ls ∷ []
+pub kept-command : (es fs : List Entry) (spare more : ℕ) (d e : Document) (o p : Output) (q : Request) (cut : Cut)
+    (name : Option (List ℕ)) (ls : List Line) (n : ℕ)
+    → IsKept es spare d o → (place es).quit ≡ false → IsNumbered (place es).commands q → IsPlanned d q cut name ls → n ≡ length es
+    → IsPut o (lines_text ls) p → e ≡ d ++ listed name → fs ≡ es ++ Command n q cut ls ∷ []
     → 0 < more
-    → IsKept fs more e p × (fs ≡ es ++ asked (place es) item cut ∷ [])
-kept-command es fs spare more d e o p item cut name said ls n k going plan at lines put names entries room =
+    → IsKept fs more e p × (fs ≡ es ++ asked (place es) q cut ∷ [])
+kept-command es fs spare more d e o p q cut name ls n k going numbered plan at put names entries room =
     let number : n ≡ (place es).commands = at ∙ sym k.commands in
-    let lines_are : ls ≡ (answer (place es).document (asked_request (place es) item) cut).lines =
-    lines ∙ ap (λ z. tagged n (reply.Ack ∷ z ++ last_replies cut)) (sym plan.replies)
-    ∙ ap (λ m. (answer d (record { tag = m; item = item }) cut).lines) number ∙ ap (λ t. (answer t (asked_request (place es) item) cut).lines) k.document in
-    let same : Command n (record { tag = n; item = item }) cut ls ≡ asked (place es) item cut =
-    ap (λ m. Command m (record { tag = m; item = item }) cut ls) number ∙ ap (λ z. Command (place es).commands (asked_request (place es) item) cut z) lines_are in
-    let whole : fs ≡ es ++ asked (place es) item cut ∷ [] = entries ∙ ap (λ z. es ++ z ∷ []) same in
-    let document : e ≡ d ++ done_names item cut = names ∙ ap (λ z. d ++ z) (sym plan.names) in
-    let put_is : IsPut o (texts (answer (place es).document (asked_request (place es) item) cut).lines) p = subst (λ z. IsPut o (texts z) p) lines_are put in
-    (rw (whole, document) (kept-grown es spare more d o p item cut k going plan.may put_is room), whole)
+    let lines_are : ls ≡ (answer (place es).document q cut).lines = plan.answer ∙ ap (λ t. request_lines t q cut) k.document in
+    let same : Command n q cut ls ≡ asked (place es) q cut =
+    ap (λ m. Command m q cut ls) number ∙ ap (λ z. Command (place es).commands q cut z) lines_are in
+    let whole : fs ≡ es ++ asked (place es) q cut ∷ [] = entries ∙ ap (λ z. es ++ z ∷ []) same in
+    let document : e ≡ d ++ done_names q cut = names ∙ ap (λ z. d ++ z) (sym plan.names) in
+    let put_is : IsPut o (lines_text (answer (place es).document q cut).lines) p = subst (λ z. IsPut o (lines_text z) p) lines_are put in
+    (rw (whole, document) (kept-grown es spare more d o p q cut k going numbered plan.may put_is room), whole)
 
--- the entry that the place asks for takes the item in
-pub takes_in : (h k : List Entry) (item : FirstItem) (cut : Cut) → k ≡ h ++ asked (place h) item cut ∷ []
-    → TakesIn h item k
-takes_in h k item cut e =
-    let a = asked (place h) item cut in
-    (ap requests e ∙ requests-grown h _ (asked_request (place h) item) cut _, ap (λ z. (place z).quit) e ∙ ap (λ (s : Place). s.quit) (place-grown start h a))
+-- the entry that the place asks for takes the request in
+pub takes_in : (h k : List Entry) (q : Request) (cut : Cut) → k ≡ h ++ asked (place h) q cut ∷ [] → TakesIn h q k
+takes_in h k q cut e =
+    let a = asked (place h) q cut in
+    let at = place-grown start h a in
+    record {
+      requests = ap requests e ∙ requests-grown h _ q cut _;
+      quit = ap (λ z. (place z).quit) e ∙ ap (λ (s : Place). s.quit) at;
+      commands = ap (λ z. (place z).commands) e ∙ ap (λ (s : Place). s.commands) at;
+    }
+
+-- ---- lines that are put one by one
+
+lines_text-append : (ks ls : List Line) → lines_text (ks ++ ls) ≡ lines_text ks ++ lines_text ls
+lines_text-append [] ls = refl
+lines_text-append (k ∷ ks) ls = ap (λ t. line_text k ++ t) (lines_text-append ks ls) ∙ sym (append_assoc (line_text k) (lines_text ks) (lines_text ls))
+
+-- one line more is put
+pub put_line : (o p r : Output) (ls : List Line) (i : ℕ) (l : Line) → i < length ls
+    → IsPut o (lines_text (take i ls)) p → IsPut p (line_text (get_or ls i l)) r → IsPut o (lines_text (take (i + 1) ls)) r
+put_line o p r ls i l h a b =
+    let more : lines_text (take (i + 1) ls) ≡ lines_text (take i ls) ++ line_text (get_or ls i l) =
+    ap lines_text (take_more ls i l h) ∙ lines_text-append (take i ls) (get_or ls i l ∷ []) ∙ ap (λ t. lines_text (take i ls) ++ t) (append-nil (line_text (get_or ls i l))) in
+    subst (λ t. IsPut o t r) (sym more) (IsPut-both o p r (lines_text (take i ls)) (line_text (get_or ls i l)) a b)

@@ -1,4 +1,4 @@
 pub mod Grown
-pub mod Passing
-pub mod Plans
+pub mod Progress
 pub mod Closed
+pub mod Shorts

@@ -10,18 +10,20 @@ use Rattle.std.specs.Prelude.{◌≡◌, ℕ, ◌≤◌, ◌⊎◌, ◌||◌, Li
 use Rattle.std.specs.Io.KnownBytes.{Appends, IsAtEnd}
 use Rattle.stm_base.specs.Counts.{Rose, Stood}
 use Rattle.stm_base.specs.Output.{AppendsPrefix}
-use Rattle.session_run.specs.Items.{items}
+use Rattle.sexp_theory.specs.declared.input.InputEnd.{InputEnd}
+use Rattle.sexp_theory.specs.declared.input.InputEnd.TheVariants.{Clean, Truncated}
+use Rattle.serapi_ans.specs.declared.line.Line.{Line}
+use Rattle.serapi_ans.specs.declared.line.Line.TheVariants as line
+use Rattle.serapi_cmd.specs.Requests.{input_end}
+use Rattle.session_run.specs.Items.{requests_in}
 use Rattle.session_run.specs.Answers.{answers}
 use Rattle.session_run.specs.Histories.{place, Legal, render, requests, outcomes}
-use Rattle.session_run.specs.declared.request.Cut.{Cut}
-use Rattle.session_run.specs.declared.request.Cut.TheVariants.{Whole}
-use Rattle.session_run.specs.declared.line.Line.{Line}
-use Rattle.session_run.specs.declared.line.Reply.{Reply}
-use Rattle.session_run.specs.declared.line.Reply.TheVariants as reply
+use Rattle.session_run.specs.declared.cut.Cut.{Cut}
+use Rattle.session_run.specs.declared.cut.Cut.TheVariants.{Whole}
 use Rattle.session_run.specs.declared.history.Entry.{Entry}
 use Rattle.session_run.specs.declared.history.Entry.TheVariants.{Command, Close}
-use Rattle.session_run.specs.declared.status.TheConstants.{DONE, BAD_WORDS, READ_FAULT, WRITE_FAULT, NO_MEMORY, TOO_LONG}
-use Rattle.session_run.specs.declared.input.TheConstants.{INPUT_LIMIT}
+use Rattle.session_run.specs.declared.status.TheConstants.{DONE, BAD_WORDS, READ_FAULT, WRITE_FAULT, NO_MEMORY, TRUNCATED, TOO_LONG}
+use Rattle.session_run.specs.declared.serve.TheConstants.{INPUT_LIMIT}
 
 -- ---- words
 
@@ -48,7 +50,7 @@ HasLegalHistory status taken (e ∷ es) = Legal (e ∷ es) × ((place (e ∷ es)
 
 -- all that was asked for was answered before this status
 abbrev pub IsAnswered : ℕ → Type 0
-IsAnswered status = (status ≡ DONE) ⊎ ((status ≡ READ_FAULT) ⊎ (status ≡ TOO_LONG))
+IsAnswered status = (status ≡ DONE) ⊎ ((status ≡ READ_FAULT) ⊎ ((status ≡ TRUNCATED) ⊎ (status ≡ TOO_LONG)))
 
 -- B are the first bytes that the source had left, and what it has left now are those behind
 pub record IsTaken (all : List ℕ) (now : Option (List ℕ)) (taken : ℕ) : Type 0 where
@@ -56,20 +58,21 @@ pub record IsTaken (all : List ℕ) (now : Option (List ℕ)) (taken : ℕ) : Ty
   pub rest : now ≡ Some (drop taken all)
 
 -- READ. The requests of H are the first of those in B, whose end is the end of the input where `at_end` holds, and all of them
--- with status 0, 3 and 7. Where `at_end` holds the source has nothing left. It holds with a status 0 without Quit, and not with 3
--- and 7. At most 4,294,967,296 bytes were taken
+-- with status 0, 3, 6 and 7. Where `at_end` holds the source has nothing left. It holds with a status 0 without Quit and with 6, and
+-- not with 3 and 7. At most 4,294,967,296 bytes were taken
 pub record HasRead (before now : Option (List ℕ)) (status taken : ℕ) (at_end : Bool) (h : List Entry) : Type 0 where
   pub taken_bytes : IfSome before (λ all. IsTaken all now taken)
-  pub first : IfSome before (λ all. take (length (requests h)) (items (take taken all) at_end) ≡ requests h)
-  pub whole : IsAnswered status → IfSome before (λ all. requests h ≡ items (take taken all) at_end)
+  pub first : IfSome before (λ all. take (length (requests h)) (requests_in (take taken all) at_end) ≡ requests h)
+  pub whole : IsAnswered status → IfSome before (λ all. requests h ≡ requests_in (take taken all) at_end)
   pub nothing_left : at_end ≡ true → IsAtEnd now
   pub ended : status ≡ DONE → (place h).quit ≡ false → at_end ≡ true
+  pub truncated_end : status ≡ TRUNCATED → at_end ≡ true
   pub not_ended : (status ≡ READ_FAULT) ⊎ (status ≡ TOO_LONG) → at_end ≡ false
   pub limit : taken ≤ INPUT_LIMIT
 
 -- ---- written
 
--- WRITTEN. W is what H renders where the sink's count didn't rise, else a prefix of it; with status 0, 3 and 7 it is all of it
+-- WRITTEN. W is what H renders where the sink's count didn't rise, else a prefix of it; with status 0, 3, 6 and 7 it is all of it
 pub record HasWritten (before now : Option (List ℕ)) (old_count new_count : ℕ) (status : ℕ) (h : List Entry) : Type 0 where
   pub whole : Stood old_count new_count ⊎ IsAnswered status → Appends before now (render h)
   pub prefix : AppendsPrefix before now (render h)
@@ -82,9 +85,30 @@ IsOneThread h = render h ≡ answers (requests h) (outcomes h)
 
 -- ---- the causes of the statuses
 
--- the input ended, or a Quit stands in the bytes up to the limit
-abbrev pub IsDone : ℕ → Bool → List Entry → Type 0
-IsDone taken at_end h = (at_end ≡ true) ⊎ ((taken ≡ INPUT_LIMIT) × ((place h).quit ≡ true))
+-- an input of these bytes ends outside of an item, or inside of one
+abbrev pub EndsClean : InputEnd → Type 0
+EndsClean Clean = Unit {0}
+EndsClean (Truncated p) = ⊥
+
+abbrev pub EndsInside : InputEnd → Type 0
+EndsInside Clean = ⊥
+EndsInside (Truncated p) = Unit {0}
+
+-- Quit was read
+abbrev pub IsQuit : List Entry → Type 0
+IsQuit h = (place h).quit ≡ true
+
+-- the input ended with B, and with neither a Quit nor an item that isn't whole
+pub record IsClean (all : List ℕ) (taken : ℕ) (at_end : Bool) (h : List Entry) : Type 0 where
+  pub ended : at_end ≡ true
+  pub no_quit : (place h).quit ≡ false
+  pub clean : EndsClean (input_end (take taken all))
+
+-- the input ended with B, inside of an item, and there was no Quit
+pub record IsTruncated (all : List ℕ) (taken : ℕ) (at_end : Bool) (h : List Entry) : Type 0 where
+  pub ended : at_end ≡ true
+  pub no_quit : (place h).quit ≡ false
+  pub inside : EndsInside (input_end (take taken all))
 
 -- the limit was taken with neither the end nor a Quit
 pub record IsTooLong (taken : ℕ) (at_end : Bool) (h : List Entry) : Type 0 where
@@ -92,29 +116,39 @@ pub record IsTooLong (taken : ℕ) (at_end : Bool) (h : List Entry) : Type 0 whe
   pub going_on : at_end ≡ false
   pub no_quit : (place h).quit ≡ false
 
--- 0: exactly where the input ended or a Quit stands in the bytes up to the limit, but for a write fault and want of memory
-pub record HasDoneCause (status taken : ℕ) (at_end : Bool) (h : List Entry) : Type 0 where
-  pub only : status ≡ DONE → IsDone taken at_end h
-  pub always : IsDone taken at_end h → (status ≡ DONE) ⊎ ((status ≡ WRITE_FAULT) ⊎ (status ≡ NO_MEMORY))
+-- the status is this one, or a write failed or memory was wanting before
+abbrev pub IsOrLost : ℕ → ℕ → Type 0
+IsOrLost status wanted = (status ≡ wanted) ⊎ ((status ≡ WRITE_FAULT) ⊎ (status ≡ NO_MEMORY))
 
--- 3: only where the source's count rose in this call, and with 0 and 7 it stayed: no failed read is passed over
+-- 0: exactly where Quit was read, or the input ended outside of an item, but for a write fault and want of memory
+pub record HasDoneCause (before : Option (List ℕ)) (status taken : ℕ) (at_end : Bool) (h : List Entry) : Type 0 where
+  pub only : status ≡ DONE → IsQuit h ⊎ IfSome before (λ all. IsClean all taken at_end h)
+  pub at_quit : IsQuit h → IsOrLost status DONE
+  pub at_clean : IfSome before (λ all. IsClean all taken at_end h → IsOrLost status DONE)
+
+-- 3: only where the source's count rose in this call, and with 0, 6 and 7 it stayed: no failed read is passed over
 pub record HasReadFaultCause (old_count new_count status : ℕ) : Type 0 where
   pub only : status ≡ READ_FAULT → Rose old_count new_count
-  pub passed : (status ≡ DONE) ⊎ (status ≡ TOO_LONG) → new_count ≡ old_count
+  pub passed : (status ≡ DONE) ⊎ ((status ≡ TRUNCATED) ⊎ (status ≡ TOO_LONG)) → new_count ≡ old_count
 
--- 4: only where the sink's count rose in this call, and with 0, 3 and 7 it stayed: no failed write is passed over
+-- 4: only where the sink's count rose in this call, and with 0, 3, 6 and 7 it stayed: no failed write is passed over
 pub record HasWriteFaultCause (old_count new_count status : ℕ) : Type 0 where
   pub only : status ≡ WRITE_FAULT → Rose old_count new_count
   pub passed : IsAnswered status → new_count ≡ old_count
 
+-- 6: exactly where the input ended inside of an item and there was no Quit, but for a write fault and want of memory
+pub record HasTruncatedCause (before : Option (List ℕ)) (status taken : ℕ) (at_end : Bool) (h : List Entry) : Type 0 where
+  pub only : status ≡ TRUNCATED → IfSome before (λ all. IsTruncated all taken at_end h)
+  pub always : IfSome before (λ all. IsTruncated all taken at_end h → IsOrLost status TRUNCATED)
+
 -- 7: exactly where the limit was taken with neither the end nor a Quit, but for a write fault and want of memory
 pub record HasTooLongCause (status taken : ℕ) (at_end : Bool) (h : List Entry) : Type 0 where
   pub only : status ≡ TOO_LONG → IsTooLong taken at_end h
-  pub always : IsTooLong taken at_end h → (status ≡ TOO_LONG) ⊎ ((status ≡ WRITE_FAULT) ⊎ (status ≡ NO_MEMORY))
+  pub always : IsTooLong taken at_end h → IsOrLost status TOO_LONG
 
--- there is no other status of a session than 0, 3, 4, 5 and 7
+-- there is no other status of a session than 0, 3, 4, 5, 6 and 7
 abbrev pub IsStatus : ℕ → Type 0
-IsStatus status = (status ≡ DONE) ⊎ ((status ≡ READ_FAULT) ⊎ ((status ≡ WRITE_FAULT) ⊎ ((status ≡ NO_MEMORY) ⊎ (status ≡ TOO_LONG))))
+IsStatus status = (status ≡ DONE) ⊎ ((status ≡ READ_FAULT) ⊎ ((status ≡ WRITE_FAULT) ⊎ ((status ≡ NO_MEMORY) ⊎ ((status ≡ TRUNCATED) ⊎ (status ≡ TOO_LONG)))))
 
 -- ---- completeness
 
@@ -123,27 +157,24 @@ AllWhole [] = Unit {0}
 AllWhole (cut ∷ cuts) = (cut ≡ Whole) × AllWhole cuts
 
 -- whether a line says that memory was wanting
-abbrev pub is_short_reply : Reply → Bool
-is_short_reply reply.Ack = false
-is_short_reply (reply.Added id begin end) = false
-is_short_reply (reply.CoqExn refused) = false
-is_short_reply reply.OutOfMemory = true
-is_short_reply reply.Completed = false
+abbrev pub is_short : Line → Bool
+is_short (line.OutOfMemory tag) = true
+is_short other = false
 
 abbrev pub has_short : List Line → Bool
 has_short [] = false
-has_short (l ∷ ls) = is_short_reply l.reply || has_short ls
+has_short (l ∷ ls) = is_short l || has_short ls
 
 abbrev pub any_short : List Entry → Bool
 any_short [] = false
 any_short (Command n q cut ls ∷ es) = has_short ls || any_short es
 any_short (Close ∷ es) = any_short es
 
--- each request in B up to Quit or the end is answered, whole where no line says OutOfMemory, and the status is 0 or 7 as B says
+-- each request in B up to Quit or the end is answered, whole where no line says OutOfMemory, and the status is 0, 6 or 7 as B says
 pub record IsComplete (before : Option (List ℕ)) (status taken : ℕ) (at_end : Bool) (h : List Entry) : Type 0 where
-  pub all : IfSome before (λ all. requests h ≡ items (take taken all) at_end)
+  pub all : IfSome before (λ all. requests h ≡ requests_in (take taken all) at_end)
   pub whole : any_short h ≡ false → AllWhole (outcomes h)
-  pub which : ((status ≡ DONE) × IsDone taken at_end h) ⊎ ((status ≡ TOO_LONG) × IsTooLong taken at_end h)
+  pub which : ((status ≡ DONE) × (IsQuit h ⊎ (at_end ≡ true))) ⊎ (((status ≡ TRUNCATED) × (at_end ≡ true)) ⊎ ((status ≡ TOO_LONG) × IsTooLong taken at_end h))
 
 -- COMPLETENESS. Where neither count rose and the status is neither 2 nor 5, the answers are complete
 abbrev pub HasCompleteness : Option (List ℕ) → ℕ → ℕ → ℕ → ℕ → ℕ → ℕ → Bool → List Entry → Type 0

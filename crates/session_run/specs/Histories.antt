@@ -1,11 +1,12 @@
 -- Histories: which are legal, and what they write.
 use Rattle.std.specs.Prelude.{◌≡◌, ℕ, ◌+◌, List, [], ◌∷◌, ◌++◌, Bool, true, false}
-use Rattle.session_run.specs.Items.{is_quit}
-use Rattle.session_run.specs.Lines.{texts}
+use Rattle.serapi_cmd.specs.Requests.{is_quit}
+use Rattle.serapi_cmd.specs.declared.request.Request.{Request}
+use Rattle.serapi_cmd.specs.declared.request.Request.TheVariants.{Do, Bad}
+use Rattle.serapi_ans.specs.Lines.{lines_text}
+use Rattle.serapi_ans.specs.declared.line.Line.{Line}
 use Rattle.session_run.specs.Answers.{Document, MayBe, answer}
-use Rattle.session_run.specs.declared.request.Request.{Request}
-use Rattle.session_run.specs.declared.request.Cut.{Cut}
-use Rattle.session_run.specs.declared.line.Line.{Line}
+use Rattle.session_run.specs.declared.cut.Cut.{Cut}
 use Rattle.session_run.specs.declared.history.Entry.{Entry}
 use Rattle.session_run.specs.declared.history.Entry.TheVariants.{Command, Close}
 
@@ -24,14 +25,19 @@ abbrev pub step : Place → Entry → Place
 step p (Command n q cut ls) = record { document = (answer p.document q cut).document; commands = p.commands + 1; quit = is_quit q; closed = p.closed }
 step p Close = record { document = p.document; commands = p.commands; quit = p.quit; closed = true }
 
--- what a place asks of a Command: it isn't closed, there was no Quit, the entry and its request have the number of the Commands
--- before, the request may be cut so, and the lines are its answer
+-- a bad item knows its number
+abbrev pub IsNumbered : ℕ → Request → Type 0
+IsNumbered n (Do t) = Unit {0}
+IsNumbered n (Bad b) = b.place ≡ n
+
+-- what a place asks of a Command: it isn't closed, there was no Quit, the entry has the number of the Commands before, the request may
+-- be cut so, and the lines are its answer
 pub record IsCommand (p : Place) (n : ℕ) (q : Request) (cut : Cut) (ls : List Line) : Type 0 where
   pub going : p.closed ≡ false
   pub no_quit : p.quit ≡ false
   pub place : n ≡ p.commands
-  pub tag : q.tag ≡ p.commands
-  pub may : MayBe q.item cut
+  pub numbered : IsNumbered p.commands q
+  pub may : MayBe q cut
   pub lines : ls ≡ (answer p.document q cut).lines
 
 -- what a place asks of an entry
@@ -56,7 +62,7 @@ abbrev pub Legal : List Entry → Type 0
 Legal h = LegalFrom start h
 
 abbrev pub rendered : Entry → List ℕ
-rendered (Command n q cut ls) = texts ls
+rendered (Command n q cut ls) = lines_text ls
 rendered Close = []
 
 -- the bytes of the lines of all entries, in order

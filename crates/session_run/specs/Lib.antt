@@ -1,8 +1,7 @@
 pub mod Items
-pub mod Lines
 pub mod Answers
 pub mod Histories
 pub mod Headline
+pub mod Plans
+pub mod Serving
 pub mod Kept
-pub mod Sessions
-pub mod Inputs

@@ -1,9 +1,10 @@
 //! What a session did, in order.
 ghost use Rattle.std.specs.Prelude.{◌≡◌, ◌↔◌, ◌+◌, ◌<◌, ◌≤◌, [], ◌∷◌, ◌++◌, length, IsTrue, OnOk};
 
-use crate::line::Lines;
-use crate::request::{Cut, Request};
+use crate::cut::Cut;
+use crate::lines::Lines;
 use base_core::NoMemory;
+use serapi_cmd::Request;
 use std::alloc::Global;
 use std::marker::Model;
 

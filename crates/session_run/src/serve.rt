@@ -1,19 +1,28 @@
 //! Serving a source and a sink on one thread.
-ghost use Rattle.std.specs.Prelude.{◌≡◌, [], ◌∷◌, ◌++◌, true, false, MatchOption};
-ghost use Rattle.std.specs.List.{All};
-ghost use Rattle.session_run.specs.Items.{ends_session, is_blank, is_newline, items};
+ghost use Rattle.std.specs.Prelude.{◌≡◌, ◌+◌, ◌≤◌, ◌<◌, ◌^◌, [], false, length, take, None, IfOk, OnErr};
+ghost use Rattle.std.specs.Io.KnownBytes.{Consumes, IsAtEnd, Keeps};
+ghost use Rattle.stm_base.specs.Counts.{HasCause};
+ghost use Rattle.sexp_theory.specs.Items.{end_offset, fed, most_bytes, taken};
+ghost use Rattle.sexp_core.specs.Reading.{item_meaning};
+ghost use Rattle.serapi_cmd.specs.Requests.{request_of};
 ghost use Rattle.session_run.specs.Histories.{place};
-ghost use Rattle.session_run.specs.Inputs.{has_ended};
-ghost use Rattle.session_run.specs.Sessions.{Continues, IsServed, Passes, Takes, status_of as status_after};
-ghost use Rattle.session_run.specs.Headline.{HasCompleteness, HasDoneCause, HasRead, HasReadFaultCause, HasTooLongCause, HasWriteFaultCause, HasWritten, HasLegalHistory, IsOneThread, IsStatus};
+ghost use Rattle.session_run.specs.Serving.{Continues, Finishes, IsIdle, Passes, Served, Takes, status_of as status_after, stop_after};
+ghost use Rattle.session_run.specs.Headline.{HasCompleteness, HasDoneCause, HasRead, HasReadFaultCause, HasTooLongCause, HasTruncatedCause, HasWriteFaultCause, HasWritten, HasLegalHistory, IsOneThread, IsStatus};
 
 use crate::history::History;
-use crate::input::{Input, Stop, take_input};
 use crate::live::Live;
-use crate::status::{DONE, NO_MEMORY, READ_FAULT, TOO_LONG, WRITE_FAULT};
-use sexp_core::{FirstItem, read_line_item};
+use crate::status::{DONE, NO_MEMORY, READ_FAULT, TOO_LONG, TRUNCATED, WRITE_FAULT};
+use base_core::NoMemory;
+use serapi_cmd::{Request, request_of_bad_place, request_of_value};
+use sexp_core::{Finish, InputEnd, Item, Reader};
 use std::alloc::Global;
-use stm_base::{Sink, Source};
+use stm_base::{Failed, Sink, Source};
+
+/// The most bytes of input that are taken.
+pub const INPUT_LIMIT: u64 = 4_294_967_296;
+
+/// How many bytes are asked for at a time.
+const PIECE: usize = 4096;
 
 /// How a run ended.
 #[derive(Drop)]
@@ -30,29 +39,53 @@ pub struct Ended<K> {
     pub at_end: bool,
 }
 
-/// How far the requests were answered.
-#[derive(Clone, Copy, Debug, PartialEq, Eq)]
-enum Answered {
-    /// All that were asked, without a Quit.
-    All,
-    /// All up to and with Quit.
-    Quit,
-    /// No more could be answered.
-    Lost(Loss),
-}
-
 /// Why no more was answered.
 #[derive(Clone, Copy, Debug, PartialEq, Eq)]
-enum Loss {
+pub(crate) enum Loss {
     /// A write failed.
     WriteFault,
     /// Memory was wanting outside of a request's own work.
     WantOfMemory,
 }
 
-/// Serves a source and a sink on this thread: takes the input up to its end, a fault or `INPUT_LIMIT`, and then
-/// answers the requests in it. A failed read or write isn't tried again. Where memory is wanting to make the
-/// session, the history is empty; in every other case it ends with Close.
+/// How far the requests were answered.
+#[derive(Clone, Copy, Debug, PartialEq, Eq)]
+pub(crate) enum Answered {
+    /// All that there are so far, without a Quit.
+    More,
+    /// All up to and with Quit.
+    Quit,
+    /// No more could be answered.
+    Lost(Loss),
+}
+
+/// Why the serving stopped.
+#[derive(Clone, Copy, Debug, PartialEq, Eq)]
+pub(crate) enum Stop {
+    /// Quit was answered.
+    Quit,
+    /// The input ended so, and there was no Quit.
+    End(InputEnd),
+    /// A read failed.
+    Fault,
+    /// So many bytes were taken as are taken at most.
+    Limit,
+    /// No more could be answered.
+    Lost(Loss),
+}
+
+/// What was served of a source.
+#[derive(Clone, Copy, Debug)]
+struct Service {
+    stop: Stop,
+    taken: u64,
+    at_end: bool,
+}
+
+/// Serves a source and a sink on this thread: takes a piece of the input, answers every whole item in it, and
+/// takes the next, up to Quit, the end of the input, a fault or `INPUT_LIMIT`. A failed read or write isn't tried
+/// again. Where memory is wanting to make the session, the history is empty; in every other case it ends with
+/// Close.
 pub fn serve_alone<S: Source, K: Sink>(alloc: Global, source: &mut S, sink: K) -> Ended<K>
     // The history is legal and closed, and an empty one means that nothing was read or written.
     ensures legal { HasLegalHistory result.status result.taken result.history.entries }
@@ -68,9 +101,10 @@ pub fn serve_alone<S: Source, K: Sink>(alloc: Global, source: &mut S, sink: K) -
 
     // The causes of each status.
     ensures known { IsStatus result.status }
-    ensures done { HasDoneCause result.status result.taken result.at_end result.history.entries }
+    ensures done { HasDoneCause (S.left source.old) result.status result.taken result.at_end result.history.entries }
     ensures read_fault { HasReadFaultCause (S.faults source.old) (S.faults source.new) result.status }
     ensures write_fault { HasWriteFaultCause (K.faults sink) (K.faults result.sink) result.status }
+    ensures truncated { HasTruncatedCause (S.left source.old) result.status result.taken result.at_end result.history.entries }
     ensures too_long { HasTooLongCause result.status result.taken result.at_end result.history.entries }
 
     // Without faults and want of memory everything is answered.
@@ -90,120 +124,201 @@ pub fn serve_alone<S: Source, K: Sink>(alloc: Global, source: &mut S, sink: K) -
             };
         }
     };
-    let Input { bytes, stop } = take_input(alloc, source);
-    let answered = answer_taken(alloc, bytes.as_slice(), stop, &mut live);
+    let Service {
+        stop,
+        taken,
+        at_end,
+    } = serve_source(alloc, source, &mut live);
     let (sink, history) = live.close();
     Ended {
-        status: status_of(stop, answered),
+        status: status_of(stop),
         sink,
         history,
-        taken: bytes.len() as u64,
-        at_end: stop.has_ended(),
+        taken,
+        at_end,
     }
 }
 
-fn status_of(stop: Stop, answered: Answered) -> u8
-    ensures { result ≡ status_after stop answered }
-{
-    match (stop, answered) {
-        (_, Answered::Lost(Loss::WriteFault)) => WRITE_FAULT,
-        (_, Answered::Lost(Loss::WantOfMemory)) => NO_MEMORY,
-        (Stop::End, _) | (Stop::Limit, Answered::Quit) => DONE,
-        (Stop::Fault, _) => READ_FAULT,
-        (Stop::NoMemory, _) => NO_MEMORY,
-        (Stop::Limit, Answered::All) => TOO_LONG,
-    }
-}
-
-/// Answers the requests in the bytes that were taken; none where memory was wanting to take more.
-fn answer_taken<K: Sink>(alloc: Global, text: &[u8], stop: Stop, live: &mut Live<K>) -> Answered
-    requires none { live.old.entries ≡ [] }
-    requires clean { live.old.output.failed ≡ false }
-    ensures served { IsServed result (items text.now (has_ended stop)) live.new.entries live.new.output }
-    ensures output { Continues live.old.output live.new.output }
+fn status_of(stop: Stop) -> u8
+    ensures { result ≡ status_after stop }
 {
     match stop {
-        Stop::NoMemory => Answered::Lost(Loss::WantOfMemory),
-        Stop::End => answer_lines(alloc, text, true, live),
-        Stop::Fault | Stop::Limit => answer_lines(alloc, text, false, live),
+        Stop::Quit | Stop::End(InputEnd::Clean) => DONE,
+        Stop::End(InputEnd::Truncated(_)) => TRUNCATED,
+        Stop::Fault => READ_FAULT,
+        Stop::Limit => TOO_LONG,
+        Stop::Lost(Loss::WriteFault) => WRITE_FAULT,
+        Stop::Lost(Loss::WantOfMemory) => NO_MEMORY,
     }
 }
 
-/// Answers the requests in a text, which is the whole input where `ended` holds.
-fn answer_lines<K: Sink>(alloc: Global, text: &[u8], ended: bool, live: &mut Live<K>) -> Answered
+/// Takes piece after piece, and answers the whole items of each before the next is taken. Each turn takes at
+/// least one byte, ends or fails.
+fn serve_source<S: Source, K: Sink>(alloc: Global, source: &mut S, live: &mut Live<K>) -> Service
     requires none { live.old.entries ≡ [] }
     requires clean { live.old.output.failed ≡ false }
-    ensures served { IsServed result (items text.now ended) live.new.entries live.new.output }
+    ensures served { Served (S.left source.old) (S.left source.new) (S.faults source.old) (S.faults source.new)
+        result.taken result.at_end result.stop live.new.entries live.new.output }
     ensures output { Continues live.old.output live.new.output }
 {
-    let mut rest = text;
-    'lines: while let Some((line, behind)) = split_line(rest) {
-        match answer_line(alloc, line, live) {
-            Answered::All => rest = behind,
-            Answered::Quit => return Answered::Quit,
-            Answered::Lost(loss) => return Answered::Lost(loss),
+    let mut taken = 0u64;
+    let Ok(mut reader) = Reader::new(alloc) else {
+        return Service {
+            stop: Stop::Lost(Loss::WantOfMemory),
+            taken,
+            at_end: false,
+        };
+    };
+    let mut buf = [0u8; PIECE];
+    'pieces: while taken < INPUT_LIMIT {
+        let most = (INPUT_LIMIT - taken).min(PIECE as u64) as usize;
+        let Ok(n) = read_front(source, &mut buf, most) else {
+            return Service {
+                stop: Stop::Fault,
+                taken,
+                at_end: false,
+            };
+        };
+        if n == 0 {
+            return Service {
+                stop: answer_end(alloc, reader, live),
+                taken,
+                at_end: true,
+            };
         }
+        taken += n as u64;
+        let stop = match answer_piece(alloc, &mut reader, &buf[..n], live) {
+            Answered::More => continue,
+            Answered::Quit => Stop::Quit,
+            Answered::Lost(loss) => Stop::Lost(loss),
+        };
+        return Service {
+            stop,
+            taken,
+            at_end: false,
+        };
     }
-    if ended {
-        answer_line(alloc, rest, live)
-    } else {
-        Answered::All
+    Service {
+        stop: Stop::Limit,
+        taken,
+        at_end: false,
     }
 }
 
-/// The first line of a text, without the byte 10 that ends it, and what stands behind that byte.
-fn split_line(text: &[u8]) -> Option<(&[u8], &[u8])>
-    ensures { MatchOption result (All (λ b. is_newline b ≡ false) text.now)
-        (λ parts. (text.now ≡ parts.0.now ++ 10 ∷ parts.1.now) × All (λ b. is_newline b ≡ false) parts.0.now) }
+/// Reads at most so many bytes to the front of a buffer.
+fn read_front<S: Source>(source: &mut S, buf: &mut [u8], most: usize) -> Result<usize, Failed>
+    requires some { 0 < most }
+    requires room { most ≤ length buf.old }
+    ensures bound { IfOk result (λ n. n ≤ most) }
+    ensures bytes { IfOk result (λ n. Consumes (S.left source.old) (S.left source.new) (take n buf.new)) }
+    ensures end { IfOk result (λ n. n ≡ 0 → IsAtEnd (S.left source.new)) }
+    ensures err { OnErr result (Keeps (S.left source.old) (S.left source.new)) }
+    ensures cause { HasCause (S.faults source.old) (S.faults source.new) result }
 {
-    let end = text.iter().position(|b| *b == b'\n')?;
-    let (line, rest) = text.split_at(end);
-    let (_, behind) = rest.split_at(1);
-    Some((line, behind))
+    source.read(&mut buf[..most])
 }
 
-/// Answers the request that a line is; a blank line is none.
-fn answer_line<K: Sink>(alloc: Global, line: &[u8], live: &mut Live<K>) -> Answered
+/// Answers the items that a piece of the input makes whole.
+fn answer_piece<K: Sink>(
+    alloc: Global,
+    reader: &mut Reader,
+    piece: &[u8],
+    live: &mut Live<K>,
+) -> Answered
+    requires room { end_offset reader.old.unread + length piece.now ≤ 2 ^ 63 }
+    requires limit { reader.old.limit ≡ most_bytes }
     requires going { (place live.old.entries).quit ≡ false }
     requires clean { live.old.output.failed ≡ false }
-    ensures passes { Passes result live.old.entries line.now live.new.entries live.new.output }
+    ensures passes { Passes result (fed reader.old.unread piece.now) live.old.entries reader.new.unread live.new.entries live.new.output }
+    ensures idle { result ≡ Answered.More → IsIdle reader.new (end_offset reader.old.unread + length piece.now) }
     ensures output { Continues live.old.output live.new.output }
 {
-    if is_blank_line(line) {
-        return Answered::All;
-    }
-    match read_line_item(alloc, line) {
-        Ok(item) => answer_item(alloc, item, live),
+    match reader.feed(piece) {
+        Ok(_) => answer_items(alloc, reader, live),
         Err(_) => Answered::Lost(Loss::WantOfMemory),
     }
 }
 
-fn is_blank_line(line: &[u8]) -> bool
-    ensures { result ≡ is_blank line.now }
-{
-    line.iter().all(|b| *b == b' ')
-}
-
-/// Answers one request, and then looks for a write fault.
-fn answer_item<K: Sink>(alloc: Global, item: FirstItem, live: &mut Live<K>) -> Answered
+/// Answers each whole item that was fed.
+fn answer_items<K: Sink>(alloc: Global, reader: &mut Reader, live: &mut Live<K>) -> Answered
+    requires limit { reader.old.limit ≡ most_bytes }
     requires going { (place live.old.entries).quit ≡ false }
-    ensures takes { Takes result live.old.entries item live.new.entries live.new.output }
+    requires clean { live.old.output.failed ≡ false }
+    ensures passes { Passes result reader.old.unread live.old.entries reader.new.unread live.new.entries live.new.output }
+    ensures idle { result ≡ Answered.More → IsIdle reader.new (end_offset reader.old.unread) }
     ensures output { Continues live.old.output live.new.output }
 {
-    let quit = is_quit_item(&item);
-    match live.command(alloc, item) {
+    'items: loop {
+        match reader.next() {
+            Err(_) => return Answered::Lost(Loss::WantOfMemory),
+            Ok(None) => return Answered::More,
+            Ok(Some(item)) => match answer_item(alloc, item, live) {
+                Answered::More => {}
+                Answered::Quit => return Answered::Quit,
+                Answered::Lost(loss) => return Answered::Lost(loss),
+            },
+        }
+    }
+}
+
+/// Answers one item, and then looks for a write fault.
+fn answer_item<K: Sink>(alloc: Global, item: Item, live: &mut Live<K>) -> Answered
+    requires going { (place live.old.entries).quit ≡ false }
+    ensures takes { Takes result live.old.entries
+        (request_of (place live.old.entries).commands (item_meaning item)) live.new.entries live.new.output }
+    ensures output { Continues live.old.output live.new.output }
+{
+    let place = live.next_place();
+    let Ok(request) = read_request(alloc, item, place) else {
+        return Answered::Lost(Loss::WantOfMemory);
+    };
+    let quit = request.is_quit();
+    match live.command(alloc, request) {
         Err(_) => Answered::Lost(Loss::WantOfMemory),
         Ok(_) => {
             if live.failed() {
                 return Answered::Lost(Loss::WriteFault);
             }
-            if quit { Answered::Quit } else { Answered::All }
+            if quit { Answered::Quit } else { Answered::More }
         }
     }
 }
 
-fn is_quit_item(item: &FirstItem) -> bool
-    ensures { result ≡ ends_session item.now }
+/// The request that an item is at a place.
+fn read_request(alloc: Global, item: Item, place: u64) -> Result<Request, NoMemory>
+    ensures { IfOk result (λ request. request ≡ request_of place (item_meaning item)) }
 {
-    matches!(item, FirstItem::Quit)
+    match item {
+        Item::Value(value, first, _) => request_of_value(alloc, &value, place, first),
+        Item::Bad(position, kind) => Ok(request_of_bad_place(kind, place, position)),
+    }
+}
+
+/// Answers the item that the end of the input makes whole, if there is one.
+fn answer_end<K: Sink>(alloc: Global, reader: Reader, live: &mut Live<K>) -> Stop
+    requires none { taken most_bytes false reader.unread ≡ None }
+    requires limit { reader.limit ≡ most_bytes }
+    requires going { (place live.old.entries).quit ≡ false }
+    requires clean { live.old.output.failed ≡ false }
+    ensures finishes { Finishes result reader.unread live.old.entries live.new.entries live.new.output }
+    ensures output { Continues live.old.output live.new.output }
+{
+    let Ok(Finish { last, ended }) = reader.finish() else {
+        return Stop::Lost(Loss::WantOfMemory);
+    };
+    match last {
+        None => Stop::End(ended),
+        Some(item) => stop_after(answer_item(alloc, item, live), ended),
+    }
+}
+
+/// Why the serving stops at the end of the input, behind what may have been its last item.
+fn stop_after(answered: Answered, ended: InputEnd) -> Stop
+    ensures { result ≡ stop_after answered ended }
+{
+    match answered {
+        Answered::More => Stop::End(ended),
+        Answered::Quit => Stop::Quit,
+        Answered::Lost(loss) => Stop::Lost(loss),
+    }
 }

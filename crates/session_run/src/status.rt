@@ -15,5 +15,8 @@ pub const WRITE_FAULT: u8 = 4;
 /// Memory was wanting outside of a command's work.
 pub const NO_MEMORY: u8 = 5;
 
+/// The input ended inside of an item.
+pub const TRUNCATED: u8 = 6;
+
 /// The input is longer than `INPUT_LIMIT`.
 pub const TOO_LONG: u8 = 7;
