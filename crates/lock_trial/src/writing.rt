@@ -42,7 +42,8 @@ pub fn try_note(
     ensures lock { IsBeside seat.old seat.new }
     ensures same { Keeps (knows seat.old) (knows seat.new) }
     ensures tried { (knows seat.new).tries ≡ (knows seat.old).tries + 1 }
-    ensures busy { MatchOption result (((knows seat.new).found ≢ 0) × ((knows seat.new).mine ≡ (knows seat.old).mine)) (λ _. (knows seat.new).found ≡ 0) }
+    ensures busy { MatchOption result ((knows seat.new).found ≢ 0) (λ _. (knows seat.new).found ≡ 0) }
+    ensures mine { MatchOption result ((knows seat.new).mine ≡ (knows seat.old).mine) (λ r. MatchResult r (λ _. (knows seat.new).mine ≡ (knows seat.old).mine ++ note (knows seat.old).number what ∷ []) (λ _. (knows seat.new).mine ≡ (knows seat.old).mine)) }
     ensures seen { Begins (knows seat.old).seen (knows seat.new).seen }
 {
     let number = seat.number();
