@@ -15,7 +15,7 @@ mod tests;
 mod write;
 
 pub use laws::{joined_parts_are_one_line, no_line_begins_another};
-pub use line::{BadText, EditLine, Exn, FaultTexts, Ids, Line, Texts};
+pub use line::{BadText, EditLine, Exn, FaultTexts, Line, Texts};
 pub use read::{LineFault, read_line};
 pub use write::{
     write_feedback, write_joined_end, write_joined_fault, write_joined_head, write_last, write_line,

@@ -1,10 +1,7 @@
 //! The lines of output.
 
-use base_core::Bytes;
+use base_core::{Bytes, Ids};
 use sqlite_items::Items;
-
-/// Ids of sentences.
-pub type Ids = Items<u64>;
 
 /// Texts of any bytes.
 pub type Texts = Items<Bytes>;

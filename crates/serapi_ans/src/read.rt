@@ -37,8 +37,8 @@ ghost use Rattle.serapi_ans.specs.Reading.{
   IsRead,
 };
 
-use crate::{BadText, EditLine, Exn, FaultTexts, Ids, Line, Texts, write_line};
-use base_core::{Bytes, NoMemory};
+use crate::{BadText, EditLine, Exn, FaultTexts, Line, Texts, write_line};
+use base_core::{Bytes, Ids, NoMemory};
 use sexp_core::{Sexp, read_text};
 use sqlite_items::Items;
 use std::alloc::Global;
@@ -218,7 +218,7 @@ fn copy_text(alloc: Global, part: Option<&Sexp>) -> Result<Bytes, NoMemory>
 fn read_numbers(alloc: Global, each: &[Sexp]) -> Result<Ids, NoMemory>
     ensures { IfOk result (λ ids. ids ≡ numbers_in (values (map meaning each.now))) }
 {
-    let mut ids = Items::new(alloc);
+    let mut ids = Ids::new(alloc);
     for value in each {
         ids.push(number_in(Some(value)))?;
     }

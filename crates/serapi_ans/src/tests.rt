@@ -1,7 +1,7 @@
 //! Lines with the texts that they are written as, typed from the table of lines.
 
 use crate::*;
-use base_core::{Bytes, NoMemory};
+use base_core::{Bytes, Ids, NoMemory};
 use sqlite_items::Items;
 use std::alloc::Global;
 use std::process::Abort;
@@ -85,12 +85,12 @@ fn each_answer_has_its_text(rt: HostRuntime) -> Result<(), Fail> {
     );
     check(
         &rt,
-        Line::Canceled(tag()?, Items::from_slice(alloc, &[])?),
+        Line::Canceled(tag()?, Ids::new(alloc)),
         "(Answer 7 (Canceled ()))\n",
     );
     check(
         &rt,
-        Line::Canceled(tag()?, Items::from_slice(alloc, &[3, 10, 4])?),
+        Line::Canceled(tag()?, Ids::from_vec(vec![in alloc; 3, 10, 4]?)),
         "(Answer 7 (Canceled (3 10 4)))\n",
     );
     check(

@@ -1,7 +1,6 @@
 //! Commands.
 
-use crate::Ids;
-use base_core::Bytes;
+use base_core::{Bytes, Ids};
 
 /// A command. Ids are those of sentences; an Add's text is its bytes without the quotes that it was written with.
 #[derive(Debug, Drop)]

@@ -11,7 +11,6 @@
 mod command;
 mod fault;
 mod fields;
-mod ids;
 mod number;
 mod options;
 mod reading;
@@ -21,6 +20,5 @@ mod tests;
 
 pub use command::{AddOpts, Command, QueryKind, QueryOpts, Tagged};
 pub use fault::CmdFault;
-pub use ids::Ids;
 pub use reading::read_command;
 pub use request::{BadLine, InputFault, Request, request_of_bad_place, request_of_value};

@@ -24,8 +24,8 @@ use crate::fault::bad_field;
 use crate::fields::{one_field, pair_of, read_text, two_fields};
 use crate::number::read_number;
 use crate::options::{read_add_options, read_query_options};
-use crate::{CmdFault, Command, Ids, QueryKind, Tagged};
-use base_core::{Bytes, NoMemory};
+use crate::{CmdFault, Command, QueryKind, Tagged};
+use base_core::{Bytes, Ids, NoMemory};
 use sexp_core::Sexp;
 use std::alloc::Global;
 

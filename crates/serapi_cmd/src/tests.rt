@@ -339,13 +339,3 @@ fn an_item_is_a_request_at_its_place(rt: HostRuntime) -> Result<(), Fail> {
     }
     Ok(())
 }
-
-#[test]
-fn ids_are_given_back(rt: HostRuntime) -> Result<(), Fail> {
-    let mut ids = Ids::new(rt.alloc());
-    ids.push(7)?;
-    ids.push(7)?;
-    let same = Ids::from_vec(ids.into_vec());
-    assert_eq!(rt; same.as_slice(), [7, 7].as_slice());
-    Ok(())
-}

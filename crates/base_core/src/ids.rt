@@ -1,7 +1,7 @@
 //! A list of ids.
 ghost use Rattle.std.specs.Prelude.{◌≡◌, [], ◌∷◌, ◌++◌, OnOk, OnErr};
 
-use base_core::NoMemory;
+use crate::NoMemory;
 use std::alloc::Global;
 use std::marker::Model;
 
@@ -56,5 +56,24 @@ impl Ids {
         ensures { result.now ≡ self.now }
     {
         self.ids.as_slice()
+    }
+}
+
+#[cfg(test)]
+mod tests {
+    use super::*;
+    use std::test::Fail;
+
+    #[test]
+    fn ids_are_kept_in_order(rt: HostRuntime) -> Result<(), Fail> {
+        let mut ids = Ids::new(rt.alloc());
+        assert!(rt; ids.as_slice().is_empty());
+        ids.push(7)?;
+        ids.push(u64::MAX)?;
+        ids.push(7)?;
+        assert_eq!(rt; ids.as_slice(), [7, u64::MAX, 7].as_slice());
+        let same = Ids::from_vec(ids.into_vec());
+        assert_eq!(rt; same.as_slice(), [7, u64::MAX, 7].as_slice());
+        Ok(())
     }
 }
