@@ -1,0 +1,82 @@
+-- Sentences worked by the function.
+use Rattle.std.proofs.Common.{◌≡◌, ℕ, List, [], ◌∷◌, codes, Some, true, refl}
+use Rattle.vern_lex.specs.declared.token.TokenKind.TheVariants as token
+use Rattle.vern_grammar.specs.Trees.{implication, Expression}
+use Rattle.vern_grammar.specs.Trees as tree
+use Rattle.vern_grammar.specs.Kinds.{Kind, Lexeme}
+use Rattle.vern_grammar.specs.Kinds as kind
+use Rattle.vern_grammar.specs.Grammar.{tok, span, single, named, group}
+use Rattle.vern_grammar.specs.Machine.{close, whole, chain}
+use Rattle.vern_sentence.specs.Trees as made
+use Rattle.vern_sentence.specs.Patterns.{read, stuck}
+use Rattle.vern_sentence.specs.Reading.{sentence_reading}
+
+-- all tokens at the byte 0
+abbrev tokens : List Kind → List Lexeme
+tokens [] = []
+tokens (k ∷ ks) = tok k (span 0 0) ∷ tokens ks
+
+abbrev word : List ℕ → Kind
+word w = kind.name w
+
+abbrev dot : Kind
+dot = kind.other token.FullStop
+
+abbrev a : Kind
+a = kind.name (97 ∷ [])
+
+abbrev name : tree.Name
+name = named (97 ∷ []) (span 0 0)
+
+abbrev lone : Expression
+lone = single (97 ∷ []) (span 0 0)
+
+-- Lemma a : a.
+row_lemma : sentence_reading [] (tokens (word (codes "Lemma") ∷ a ∷ kind.colon ∷ a ∷ dot ∷ [])) ≡ read (made.begin name lone)
+unfolding whole
+row_lemma = refl
+
+-- Definition a (a a : a) : a := a.
+row_definition : sentence_reading [] (tokens (word (codes "Definition") ∷ a ∷ kind.opening ∷ a ∷ a ∷ kind.colon ∷ a ∷ kind.closing ∷ kind.colon ∷ a ∷ kind.other token.Define ∷ a ∷ dot ∷ []))
+    ≡ read (made.define name (group (name ∷ name ∷ []) name ∷ []) (Some name) lone)
+unfolding whole
+row_definition = refl
+
+-- assert (a : (a)).
+row_assert : sentence_reading [] (tokens (word (codes "assert") ∷ kind.opening ∷ a ∷ kind.colon ∷ kind.opening ∷ a ∷ kind.closing ∷ kind.closing ∷ dot ∷ [])) ≡ read (made.refinement (made.assert name lone))
+unfolding whole close
+row_assert = refl
+
+-- assert (a : a) -> a.
+row_assert_more : sentence_reading [] (tokens (word (codes "assert") ∷ kind.opening ∷ a ∷ kind.colon ∷ a ∷ kind.closing ∷ kind.sign implication ∷ a ∷ dot ∷ [])) ≡ stuck (tokens (kind.sign implication ∷ a ∷ dot ∷ []))
+unfolding whole close
+row_assert_more = refl
+
+-- destruct a as [a | a].
+row_destruct : sentence_reading [] (tokens (word (codes "destruct") ∷ a ∷ kind.other token.As ∷ kind.other token.LeftBracket ∷ a ∷ kind.other token.Bar ∷ a ∷ kind.other token.RightBracket ∷ dot ∷ []))
+    ≡ read (made.refinement (made.destruct_either lone name name))
+unfolding whole
+row_destruct = refl
+
+-- rewrite <- a.
+row_rewrite : sentence_reading [] (tokens (word (codes "rewrite") ∷ kind.other token.BackArrow ∷ a ∷ dot ∷ [])) ≡ read (made.refinement (made.rewrite lone true))
+unfolding whole
+row_rewrite = refl
+
+-- exact a -> a.
+row_exact : sentence_reading [] (tokens (word (codes "exact") ∷ a ∷ kind.sign implication ∷ a ∷ dot ∷ [])) ≡ stuck (tokens (kind.sign implication ∷ a ∷ dot ∷ []))
+unfolding whole
+row_exact = refl
+
+-- Qed a.
+row_qed : sentence_reading [] (tokens (word (codes "Qed") ∷ a ∷ dot ∷ [])) ≡ stuck (tokens (a ∷ dot ∷ []))
+row_qed = refl
+
+-- Axiom a : a
+row_end : sentence_reading [] (tokens (word (codes "Axiom") ∷ a ∷ kind.colon ∷ a ∷ [])) ≡ stuck []
+unfolding whole chain
+row_end = refl
+
+-- three hyphens from the byte 1 on
+row_bullet : sentence_reading (32 ∷ 45 ∷ 45 ∷ 45 ∷ []) (tok (kind.other token.Bullet) (span 1 4) ∷ []) ≡ read (made.bullet 45 3)
+row_bullet = refl

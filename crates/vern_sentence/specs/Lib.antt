@@ -1,0 +1,7 @@
+pub mod Evidence
+pub mod Patterns
+pub mod Reading
+pub mod Sentences
+pub mod Slots
+pub mod Trees
+pub mod Words

@@ -1,0 +1,8 @@
+//! The grammar of sentences as definitions, the function that reads it, and their laws.
+//!
+//! No code runs here. specs/ has the trees (`Sentence`, `Refinement`), the grammar as a relation on whole lists of
+//! tokens with one row for each form (`IsSentence`), and a function that gives the one tree or the tokens from the
+//! faulty one on (`sentence_reading`): the first token says what may follow (`following`, a `Pattern`), and parts of
+//! any length (`Slot`) are read by machines that take one step for each token. Expressions and shapes are
+//! vern_grammar's. vern_parse has the Rust types of trees and the code.
+#![tactic(auto)]
