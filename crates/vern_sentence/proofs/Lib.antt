@@ -1,3 +1,4 @@
+mod Lists
 mod Parts
 mod Signs
 mod Table
