@@ -1,3 +1,4 @@
+mod Evidences
 mod Lists
 mod Parts
 mod Signs

@@ -10,7 +10,7 @@ use Rattle.vern_grammar.proofs.Runs.{is_foreign}
 use Rattle.vern_sentence.specs.Sentences.{spelled, AreGroups, none, more}
 use Rattle.vern_sentence.specs.Slots.{names, groups, GroupPlace, between, inside, before_sort, behind_sort, on_group, whole_groups, name_in, name_of, one_more, next_place, tree_at, first_place}
 use Rattle.vern_sentence.proofs.Signs.{some_out, name_is}
-use Rattle.vern_sentence.proofs.Parts.{onward, over, over-append, over-None, Ran, Ended}
+use Rattle.vern_sentence.proofs.Parts.{onward, over, over-append, over-None, split_over, Ran, Ended}
 
 -- ---- names
 
@@ -120,14 +120,10 @@ group_step (read_colon x xs a b w) _ c to e = cc
 group_step (read_sort x xs sort a b w) kind.closing c to e = one_group x xs sort a b c to w e
 group_step (read_sort x xs sort a b w) _ c to e = cc
 
-step_or_none : (A : Type 0) (m : Option GroupPlace) (us : List Lexeme) (to : GroupPlace) → ((mid : GroupPlace) → m ≡ Some mid → over groups (Some mid) us ≡ Some to → A) → over groups m us ≡ Some to → A
-step_or_none A None us to f p = absurd (none_some to (sym (over-None groups us) ∙ p))
-step_or_none A (Some mid) us to f p = f mid refl p
-
 group_reads : (us : List Lexeme) {s : GroupPlace} {ts : List Lexeme} → HasRead s ts → (to : GroupPlace) → over groups (Some s) us ≡ Some to → HasRead to (ts ++ us)
 group_reads [] {s = s} {ts = ts} h to p = regrouped (sym (append-nil ts)) (moved p h)
 group_reads (u ∷ us) {s = s} {ts = ts} h to p =
-    step_or_none (HasRead to (ts ++ (u ∷ us))) (on_group s u u.kind) us to (λ mid e q. regrouped (append_assoc ts (u ∷ []) us) (group_reads us (group_step h u.kind u.span mid e) to q)) p
+    split_over groups (HasRead to (ts ++ (u ∷ us))) (on_group s u u.kind) us to (λ mid e q. regrouped (append_assoc ts (u ∷ []) us) (group_reads us (group_step h u.kind u.span mid e) to q)) p
 
 groups_of : {s : GroupPlace} {ts : List Lexeme} → HasRead s ts → (gs : List Group) → whole_groups s ≡ Some gs → AreGroups ts gs
 groups_of {ts = ts} (read_between {gs = hs} w) gs e = subst (λ l. AreGroups ts l) (some_out hs gs e) w

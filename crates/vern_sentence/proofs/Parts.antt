@@ -29,6 +29,14 @@ pub over-None : (i : Slot) (us : List Lexeme) → over i None us ≡ None
 over-None i [] = refl
 over-None i (u ∷ us) = over-None i us
 
+none_some : {A : Type 0} (a : A) → None ≡ Some a → ⊥
+none_some a e = cc
+
+-- a place that is reached from a place, or from none
+pub split_over : (i : Slot) (A : Type 0) (m : Option (Place i)) (us : List Lexeme) (to : Place i) → ((mid : Place i) → m ≡ Some mid → over i (Some mid) us ≡ Some to → A) → over i m us ≡ Some to → A
+split_over i A None us to f p = absurd (none_some to (sym (over-None i us) ∙ p))
+split_over i A (Some mid) us to f p = f mid refl p
+
 -- The machine of a part goes over its tokens, has its tree, and goes over no token that no part goes on with.
 pub record Ran (i : Slot) (ts : List Lexeme) (t : Tree i) : Type 0 where
   pub place : Place i
@@ -44,9 +52,12 @@ pub record Ended (i : Slot) (s : Place i) : Type 0 where
   pub ran : over i (Some s) tokens ≡ Some place
   pub tree : tree_at i place ≡ Some part
 
+pub ended_by : (i : Slot) (s to : Place i) (t : Lexeme) → next_place i s t ≡ Some to → Ended i to → Ended i s
+ended_by i s to t e f = record { tokens = t ∷ f.tokens; place = f.place; part = f.part; ran = ap (λ m. over i m f.tokens) e ∙ f.ran; tree = f.tree }
+
 -- ---- expressions and shapes
 
-over_run : (m : Option State) (ts : List Lexeme) → over expression m ts ≡ run m ts
+pub over_run : (m : Option State) (ts : List Lexeme) → over expression m ts ≡ run m ts
 over_run None [] = refl
 over_run (Some s) [] = refl
 over_run None (t ∷ ts) = over_run None ts
