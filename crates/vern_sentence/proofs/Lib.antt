@@ -1,3 +1,4 @@
+mod Inner
 mod Evidences
 mod Lists
 mod Parts
