@@ -1,3 +1,5 @@
+mod Machines
+mod Readings
 mod Inner
 mod Evidences
 mod Lists
