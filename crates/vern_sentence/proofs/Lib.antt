@@ -1,3 +1,4 @@
+mod Stops
 mod Machines
 mod Readings
 mod Inner

@@ -79,7 +79,7 @@ nowhere = span 0 0
 any_name : Name
 any_name = named (120 ∷ []) nowhere
 
-part_example : (i : Slot) (f : Tree i → Pattern) → ((x : Tree i) → Example (f x)) → (us : List Lexeme) (s : Place i) → over i (Some (first_place i)) us ≡ Some s → Ended i s → (ls : List Lexeme) × (t : Sentence) × Reads (slot i f) (us ++ ls) t
+pub part_example : (i : Slot) (f : Tree i → Pattern) → ((x : Tree i) → Example (f x)) → (us : List Lexeme) (s : Place i) → over i (Some (first_place i)) us ≡ Some s → Ended i s → (ls : List Lexeme) × (t : Sentence) × Reads (slot i f) (us ++ ls) t
 part_example i f g us s e d =
     let x = g d.part in
     let w : IsPart i (us ++ d.tokens) d.part = part_whole i (us ++ d.tokens) d.place d.part (over-append i (Some (first_place i)) us d.tokens ∙ ap (λ m. over i m d.tokens) e ∙ d.ran) d.tree in
