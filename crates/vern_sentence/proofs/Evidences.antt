@@ -46,7 +46,7 @@ mutual
   evidence_application (ev.to_evidence c d w l e) = let (a, b, f) = evidence_operand e in to_expression c d (evidence_application w) l (f last)
 
 mutual
-  evidence_simple : {o : ℕ} {ts : List Lexeme} {t : Expression} → IsEvidenceBehind o ts t → AllSimple ts
+  pub evidence_simple : {o : ℕ} {ts : List Lexeme} {t : Expression} → IsEvidenceBehind o ts t → AllSimple ts
   evidence_simple (ev.applied w) = application_simple w
   evidence_simple (ev.enclosed {ts = ts} c d l e) = (refl, simple_both ts _ (evidence_simple e) (refl, tt))
 

@@ -1,3 +1,4 @@
+mod Rows
 mod Stops
 mod Machines
 mod Readings
