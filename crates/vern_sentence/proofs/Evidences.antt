@@ -1,19 +1,19 @@
 -- Evidence is an expression of names and parentheses alone.
-use Rattle.std.proofs.Common.{◌≡◌, ℕ, ◌+◌, ◌<◌, Bool, true, false, cond, nat_lt, ◌⊎◌, inl, inr, List, [], ◌∷◌, ◌++◌, length, Option, Some, None, refl, sym, ap, ◌∙◌, subst}
+use Rattle.std.proofs.Common.{◌≡◌, ℕ, Bool, true, false, cond, nat_lt, List, [], ◌∷◌, ◌++◌, Option, Some, None, refl, sym, ap, ◌∙◌, subst}
 use Rattle.vern_lex.specs.declared.span.Span.{Span}
 use Rattle.vern_grammar.specs.Trees.{Name, Expression}
 use Rattle.vern_grammar.specs.Kinds.{Kind, Lexeme}
 use Rattle.vern_grammar.specs.Kinds as kind
 use Rattle.vern_grammar.specs.Levels.{limit}
-use Rattle.vern_grammar.specs.Grammar.{tok, span, named, application, single, Head, Next, last, Fits, IsOperand, constant, applied, enclosed, governed, IsApplication, alone, to_name, to_expression, IsHead, left, negating, names, groups, IsExpression}
-use Rattle.vern_grammar.specs.Machine.{Frame, parenthesis, argument, governor, Mode, State, at, want, applying, after, depth, within, close, whole, an_expression, on, step, next, run, ends, start}
-use Rattle.vern_grammar.proofs.Runs.{is_foreign, run-None, within_yes}
+use Rattle.vern_grammar.specs.Grammar.{tok, span, named, application, Head, Next, last, IsOperand, constant, applied, enclosed, governed, IsApplication, alone, to_name, to_expression, IsHead, left, negating, names, groups, IsExpression}
+use Rattle.vern_grammar.specs.Machine.{Frame, parenthesis, argument, Mode, State, at, want, applying, after, depth, within, close, whole, an_expression, on, step, run, ends}
+use Rattle.vern_grammar.proofs.Runs.{is_foreign}
 use Rattle.vern_grammar.proofs.Laws as laws
 use Rattle.vern_sentence.specs.Evidence.{IsEvidenceBehind, IsEvidenceApplication, IsEvidence}
 use Rattle.vern_sentence.specs.Evidence as ev
-use Rattle.vern_sentence.specs.Slots.{evidence, expression, is_simple, next_place, tree_at, first_place, expression_in}
+use Rattle.vern_sentence.specs.Slots.{evidence, is_simple, next_place, first_place, expression_in}
 use Rattle.vern_sentence.proofs.Signs.{some_out}
-use Rattle.vern_sentence.proofs.Parts.{onward, over, split_over, ended_by, Ran, Ended, expression_whole, over_run}
+use Rattle.vern_sentence.proofs.Parts.{over, split_over, ended_by, Ran, Ended, expression_whole, over_run}
 
 -- ---- the tokens
 
@@ -177,6 +177,7 @@ nowhere = span 0 0
 
 mutual
   unfolding SimpleFrames close whole nowhere
+
   closes_after : (s : List Frame) (v : Expression) (a b : ℕ) → SimpleFrames s → Ended evidence (at (after v a b) s)
   closes_after [] v a b h = record { tokens = []; place = at (after v a b) []; part = v; ran = refl; tree = refl }
   closes_after (parenthesis f ∷ s) v a b h = ended_by evidence _ (at (after v f nowhere.to) s) (tok kind.closing nowhere) refl (closes_after s v f nowhere.to h)

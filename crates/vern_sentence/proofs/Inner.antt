@@ -1,20 +1,20 @@
 -- An expression behind a `(` ends with the `)` of that parenthesis, and no sooner.
-use Rattle.std.proofs.Common.{◌≡◌, ℕ, ◌+◌, ◌<◌, Bool, true, false, cond, ◌&&◌, nat_lt, nat_le, ◌⊎◌, inl, inr, List, [], ◌∷◌, ◌++◌, length, Option, Some, None, refl, sym, ap, ◌∙◌, subst, append_assoc, append-nil}
+use Rattle.std.proofs.Common.{◌≡◌, ℕ, ◌+◌, Bool, true, false, cond, ◌&&◌, nat_lt, nat_le, ◌⊎◌, inl, inr, List, [], ◌∷◌, ◌++◌, length, Option, Some, None, refl, sym, ap, ◌∙◌, subst, append_assoc, append-nil}
 use Rattle.vern_lex.specs.declared.span.Span.{Span}
 use Rattle.vern_grammar.specs.Trees.{Operator, implication, equivalence, disjunction, conjunction, equation, inequation, Name, Expression}
 use Rattle.vern_grammar.specs.Kinds.{Kind, Lexeme}
 use Rattle.vern_grammar.specs.Kinds as kind
 use Rattle.vern_grammar.specs.Levels.{op_level, left_at_most, tilde_level, limit}
-use Rattle.vern_grammar.specs.Grammar.{tok, span, room, level, governing, begin, binder, quantifier, tilde, application, Next, last, IsOperand, constant, applied, enclosed, governed, IsApplication, alone, to_name, to_expression, left, negating, names, groups, IsExpression}
-use Rattle.vern_grammar.specs.Machine.{Frame, parenthesis, argument, governor, outline, link, Mode, State, at, want, applying, after, ended, in_names, names_sort, names_end, in_group, group_sort, group_end, in_groups, top, in_shape, depth, within, pushed, shift, place, close, whole, an_expression, on, step, next, run, ends, start, parsed}
-use Rattle.vern_grammar.proofs.Runs.{is_foreign, run-None, Arrives, runs, operand_most}
+use Rattle.vern_grammar.specs.Grammar.{tok, span, room, level, governing, begin, Next, last, IsOperand, constant, applied, enclosed, governed, IsApplication, alone, to_name, to_expression, left, negating, names, groups, IsExpression}
+use Rattle.vern_grammar.specs.Machine.{Frame, parenthesis, argument, governor, outline, link, Mode, State, at, want, applying, after, ended, in_names, names_sort, names_end, in_group, group_sort, group_end, in_groups, top, in_shape, depth, within, pushed, shift, place, close, whole, an_expression, on, step, run, ends}
+use Rattle.vern_grammar.proofs.Runs.{run-None, Arrives, runs, operand_most}
 use Rattle.vern_grammar.proofs.Sound.{for_expression}
 use Rattle.vern_grammar.proofs.Finish.{GoesOn, goes_on}
 use Rattle.vern_grammar.proofs.Laws as laws
 use Rattle.vern_sentence.specs.Slots as slots
 use Rattle.vern_sentence.specs.Slots.{IsPart, next_place, tree_at, first_place, is_closed, operand_in}
 use Rattle.vern_sentence.proofs.Signs.{some_out}
-use Rattle.vern_sentence.proofs.Parts.{onward, over, over-append, over-None, split_over, Ran, Ended}
+use Rattle.vern_sentence.proofs.Parts.{over, over-append, over-None, split_over, Ran, Ended}
 
 -- ---- the frame at the bottom
 
@@ -70,11 +70,10 @@ within_some G n x to g p = test_some G (nat_lt n limit) x to g p
 
 -- What a token does to the frames: none, one more on top, an operator, or a `)`.
 module _ (Q : List Frame → Type 0) (G : State → Type 0)
-  (same : (m : Mode) (s : List Frame) → Q s → G (at m s))
-  (push : (m : Mode) (f : Frame) (s : List Frame) → Q s → G (at m (f ∷ s)))
-  (places : (op : Operator) (v : Expression) (a b : ℕ) (s : List Frame) (to : State) → Q s → place op true v a b s ≡ Some to → G to)
-  (closes : (v : Expression) (a b : ℕ) (s : List Frame) (to : State) → Q s → close v a b s ≡ Some to → G to) where
-
+    (same : (m : Mode) (s : List Frame) → Q s → G (at m s))
+    (push : (m : Mode) (f : Frame) (s : List Frame) → Q s → G (at m (f ∷ s)))
+    (places : (op : Operator) (v : Expression) (a b : ℕ) (s : List Frame) (to : State) → Q s → place op true v a b s ≡ Some to → G to)
+    (closes : (v : Expression) (a b : ℕ) (s : List Frame) (to : State) → Q s → close v a b s ≡ Some to → G to) where
   same_some : (m : Mode) (s : List Frame) (to : State) → Q s → Some (at m s) ≡ Some to → G to
   same_some m s to q p = subst G (some_out (at m s) to p) (same m s q)
 
@@ -418,6 +417,7 @@ ended_inside ts us s e i = by (append_split ts us i.inner (tok kind.closing i.cl
         let first : tok kind.closing i.closing ≡ k = cc in
         let j : Inside 0 ts = record { inner = i.inner; rest = z; closing = i.closing; level = i.level; from = i.from; to = i.to; tree = i.tree; split = h ∙ ap (λ x. i.inner ++ (x ∷ z)) (sym first); is = i.is } in
         record { tokens = []; place = s; part = i.tree; ran = refl; tree = sym (ap (λ w. operand_in w.mode w.stack) (rest_over ts s j e).1) }
+
     by : Parted ts us i.inner (tok kind.closing i.closing ∷ i.rest) → Ended slots.enclosed s
     by (inl (z, h)) = record {
       tokens = z ++ (tok kind.closing i.closing ∷ []);

@@ -1,10 +1,11 @@
-mod Rows
-mod Stops
-mod Machines
-mod Readings
-mod Inner
-mod Evidences
-mod Lists
-mod Parts
-mod Signs
+pub mod Evidences
+pub mod Inner
+pub mod Laws
+pub mod Lists
+pub mod Machines
+pub mod Parts
+pub mod Readings
+pub mod Rows
+pub mod Signs
+pub mod Stops
 mod Table

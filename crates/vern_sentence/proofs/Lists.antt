@@ -1,5 +1,5 @@
 -- The machines of names and of groups.
-use Rattle.std.proofs.Common.{◌≡◌, ℕ, zero, suc, ◌+◌, ◌<◌, Bool, true, false, cond, nat_lt, List, [], ◌∷◌, ◌++◌, map, length, Option, Some, None, refl, sym, ap, ◌∙◌, subst, arith, append_assoc, append-nil, lt-ltb, length-append}
+use Rattle.std.proofs.Common.{◌≡◌, true, cond, nat_lt, List, [], ◌∷◌, ◌++◌, map, length, Option, Some, None, refl, sym, ap, ◌∙◌, subst, arith, append_assoc, append-nil, lt-ltb, length-append}
 use Rattle.std.proofs.lemmas.List.{map-append}
 use Rattle.vern_lex.specs.declared.span.Span.{Span}
 use Rattle.vern_grammar.specs.Trees.{Name, Group}
@@ -8,9 +8,9 @@ use Rattle.vern_grammar.specs.Kinds as kind
 use Rattle.vern_grammar.specs.Grammar.{tok, span, named, group}
 use Rattle.vern_grammar.proofs.Runs.{is_foreign}
 use Rattle.vern_sentence.specs.Sentences.{spelled, AreGroups, none, more}
-use Rattle.vern_sentence.specs.Slots.{names, groups, GroupPlace, between, inside, before_sort, behind_sort, on_group, whole_groups, name_in, name_of, one_more, next_place, tree_at, first_place}
+use Rattle.vern_sentence.specs.Slots.{names, groups, GroupPlace, between, inside, before_sort, behind_sort, on_group, whole_groups, name_in, name_of, one_more}
 use Rattle.vern_sentence.proofs.Signs.{some_out, name_is}
-use Rattle.vern_sentence.proofs.Parts.{onward, over, over-append, over-None, split_over, Ran, Ended}
+use Rattle.vern_sentence.proofs.Parts.{over, over-append, over-None, split_over, Ran, Ended}
 
 -- ---- names
 

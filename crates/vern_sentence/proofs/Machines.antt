@@ -1,10 +1,9 @@
 -- The machine of each part, and where it stops.
-use Rattle.std.proofs.Common.{◌≡◌, List, [], ◌∷◌, ◌++◌, Option, Some, None, refl, sym, ap, ◌∙◌, subst}
-use Rattle.vern_grammar.specs.Kinds.{Kind, Lexeme}
-use Rattle.vern_grammar.proofs.Runs.{is_foreign}
+use Rattle.std.proofs.Common.{◌≡◌, List, [], ◌∷◌, ◌++◌, Option, Some, None, refl, ap, ◌∙◌}
+use Rattle.vern_grammar.specs.Kinds.{Lexeme}
 use Rattle.vern_sentence.specs.Slots.{Slot, expression, enclosed, shape, evidence, names, groups, Tree, IsPart, Place, first_place, next_place, tree_at, cut}
 use Rattle.vern_sentence.proofs.Signs.{some_out}
-use Rattle.vern_sentence.proofs.Parts.{onward, over, over-append, over-None, split_over, Ran, Ended, expression_ran, expression_whole, expression_ended, shape_ran, shape_whole, shape_ended}
+use Rattle.vern_sentence.proofs.Parts.{over, split_over, Ran, Ended, expression_ran, expression_whole, expression_ended, shape_ran, shape_whole, shape_ended}
 use Rattle.vern_sentence.proofs.Lists.{names_ran, names_whole, names_ended, groups_ran, groups_whole, groups_ended}
 use Rattle.vern_sentence.proofs.Evidences.{evidence_ran, evidence_whole, evidence_ended}
 use Rattle.vern_sentence.proofs.Inner.{enclosed_ran, enclosed_whole, enclosed_ended}

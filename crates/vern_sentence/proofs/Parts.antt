@@ -1,16 +1,15 @@
 -- The machines of the parts read what the grammar gives.
-use Rattle.std.proofs.Common.{◌≡◌, ℕ, zero, suc, ◌+◌, ◌<◌, Bool, true, false, cond, ◌&&◌, ◌⊎◌, inl, inr, List, [], ◌∷◌, ◌++◌, map, length, Option, Some, None, refl, sym, ap, ◌∙◌, subst, arith, append_assoc, append-nil}
+use Rattle.std.proofs.Common.{◌≡◌, true, List, [], ◌∷◌, ◌++◌, Option, Some, None, refl, sym, ap, ◌∙◌, subst}
 use Rattle.vern_lex.specs.declared.span.Span.{Span}
-use Rattle.vern_grammar.specs.Trees.{Name, Group, Expression, Shape}
+use Rattle.vern_grammar.specs.Trees.{Expression, Shape}
 use Rattle.vern_grammar.specs.Kinds.{Kind, Lexeme}
-use Rattle.vern_grammar.specs.Kinds as kind
 use Rattle.vern_grammar.specs.Grammar.{tok, IsExpression, IsShape}
-use Rattle.vern_grammar.specs.Machine.{State, Frame, outline, Phrase, an_expression, a_shape, step, next, run, ends, start, parsed}
-use Rattle.vern_grammar.proofs.Runs.{run-append, run-None, is_foreign}
-use Rattle.vern_grammar.proofs.Sound.{Aim, for_expression, for_shape, ground}
+use Rattle.vern_grammar.specs.Machine.{State, outline, Phrase, an_expression, a_shape, step, run, ends, start}
+use Rattle.vern_grammar.proofs.Runs.{run-append, is_foreign}
+use Rattle.vern_grammar.proofs.Sound.{for_expression, for_shape}
 use Rattle.vern_grammar.proofs.Finish.{GoesOn, goes_on}
 use Rattle.vern_grammar.proofs.Laws as laws
-use Rattle.vern_sentence.specs.Slots.{Slot, expression, enclosed, shape, evidence, names, groups, Tree, IsPart, Place, first_place, next_place, tree_at, expression_in, shape_in}
+use Rattle.vern_sentence.specs.Slots.{Slot, expression, shape, Tree, Place, first_place, next_place, tree_at, expression_in, shape_in}
 
 -- the place behind some tokens of a part
 abbrev pub onward : (i : Slot) → Option (Place i) → Lexeme → Option (Place i)
@@ -118,6 +117,7 @@ expression_ended ts s e = by (sym (over_run _ ts) ∙ e)
     by_found p g =
         let (t, h, w) = laws.expression_given (ts ++ g.tokens) g.phrase (laws.found_read for_expression (ts ++ g.tokens) g.phrase g.found) in
         ends_expression s g.tokens t (run (Some s) g.tokens) refl (ap (λ m. ends (run m g.tokens)) (sym p) ∙ ap ends (sym (run-append (start []) ts g.tokens)) ∙ laws.expression_read (ts ++ g.tokens) t w)
+
     by : run (start []) ts ≡ Some s → Ended expression s
     by p = by_found p (goes_on for_expression ts s p)
 
@@ -128,5 +128,6 @@ shape_ended ts s e = by (sym (over_shape_run _ ts) ∙ e)
     by_found p g =
         let (t, h, w) = laws.shape_given (ts ++ g.tokens) g.phrase (laws.found_read for_shape (ts ++ g.tokens) g.phrase g.found) in
         ends_shape s g.tokens t (run (Some s) g.tokens) refl (ap (λ m. ends (run m g.tokens)) (sym p) ∙ ap ends (sym (run-append (start (outline ∷ [])) ts g.tokens)) ∙ laws.shape_read (ts ++ g.tokens) t w)
+
     by : run (start (outline ∷ [])) ts ≡ Some s → Ended shape s
     by p = by_found p (goes_on for_shape ts s p)

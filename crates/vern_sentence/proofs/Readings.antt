@@ -2,15 +2,15 @@
 use Rattle.std.proofs.Common.{◌≡◌, Bool, true, false, cond, List, [], ◌∷◌, ◌++◌, Option, Some, None, refl, sym, ap, ◌∙◌, subst, append_assoc}
 use Rattle.vern_lex.specs.declared.span.Span.{Span}
 use Rattle.vern_grammar.specs.Trees.{Name}
-use Rattle.vern_grammar.specs.Kinds.{Kind, Lexeme}
+use Rattle.vern_grammar.specs.Kinds.{Lexeme}
 use Rattle.vern_grammar.specs.Grammar.{tok, span, named}
 use Rattle.vern_grammar.proofs.Runs.{is_foreign}
 use Rattle.vern_sentence.specs.Trees.{Sentence}
 use Rattle.vern_sentence.specs.Sentences.{spelled}
 use Rattle.vern_sentence.specs.Words.{Sign, sign_kind, is_sign}
-use Rattle.vern_sentence.specs.Slots.{Slot, Tree, IsPart, Place, first_place, next_place, tree_at, cut, name_of}
+use Rattle.vern_sentence.specs.Slots.{Slot, Tree, IsPart, Place, first_place, tree_at, cut, name_of}
 use Rattle.vern_sentence.specs.Patterns.{Pattern, done, fixed, name, slot, option, Outcome, read, stuck, at_part, reading}
-use Rattle.vern_sentence.proofs.Signs.{some_out, sign_is, sign_found, name_is}
+use Rattle.vern_sentence.proofs.Signs.{sign_is, name_is}
 use Rattle.vern_sentence.proofs.Parts.{over, over-append, Ran, Ended}
 use Rattle.vern_sentence.proofs.Machines.{part_ran, part_whole, part_ended, cut_over, CutAt, cut_is}
 

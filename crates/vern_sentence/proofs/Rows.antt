@@ -1,8 +1,8 @@
 -- Each row of the grammar is read, and what is read is a row.
-use Rattle.std.proofs.Common.{◌≡◌, ℕ, Bool, cond, List, [], ◌∷◌, ◌++◌, map, codes, Option, Some, None, true, false, refl, sym, ap, ◌∙◌, subst, append_assoc}
+use Rattle.std.proofs.Common.{◌≡◌, ℕ, cond, List, [], ◌∷◌, ◌++◌, map, codes, Some, None, true, false, refl, sym, ap, ◌∙◌, subst, append_assoc}
 use Rattle.vern_lex.specs.declared.span.Span.{Span}
 use Rattle.vern_lex.specs.declared.token.TokenKind.TheVariants as token
-use Rattle.vern_grammar.specs.Trees.{implication, Name, Group, Expression}
+use Rattle.vern_grammar.specs.Trees.{Name, Group, Expression}
 use Rattle.vern_grammar.specs.Kinds.{Kind, Lexeme}
 use Rattle.vern_grammar.specs.Kinds as kind
 use Rattle.vern_grammar.specs.Grammar.{tok}
@@ -14,7 +14,7 @@ use Rattle.vern_sentence.specs.Sentences as row
 use Rattle.vern_sentence.specs.Words.{Word, leading, is_sign}
 use Rattle.vern_sentence.specs.Words as word
 use Rattle.vern_sentence.specs.Slots.{expression, enclosed, shape, evidence, names, groups, IsPart, first_place, tree_at, is_simple}
-use Rattle.vern_sentence.specs.Patterns.{Pattern, done, fixed, name, slot, option, read, reading}
+use Rattle.vern_sentence.specs.Patterns.{Pattern, fixed, name, slot, option, read, reading}
 use Rattle.vern_sentence.specs.Reading.{ends_as, refines, defining, two_names, arguing, following, sentence_reading}
 use Rattle.vern_sentence.proofs.Signs.{some_out}
 use Rattle.vern_sentence.proofs.Parts.{Ran}

@@ -1,14 +1,14 @@
 -- Where a pattern stops, the tokens before begin something of it, and the next one is refused whatever follows.
 use Rattle.std.proofs.Common.{◌≡◌, Bool, true, false, cond, List, [], ◌∷◌, ◌++◌, Option, Some, None, refl, sym, ap, ◌∙◌, subst, append_assoc}
 use Rattle.vern_grammar.specs.Trees.{Name}
-use Rattle.vern_grammar.specs.Kinds.{Kind, Lexeme}
+use Rattle.vern_grammar.specs.Kinds.{Lexeme}
 use Rattle.vern_sentence.specs.Trees.{Sentence}
 use Rattle.vern_sentence.specs.Words.{Sign, is_sign}
-use Rattle.vern_sentence.specs.Slots.{Slot, Tree, IsPart, Place, first_place, next_place, tree_at, cut, name_of}
-use Rattle.vern_sentence.specs.Patterns.{Pattern, done, fixed, name, slot, option, Outcome, read, stuck, at_part, reading}
+use Rattle.vern_sentence.specs.Slots.{Slot, Tree, Place, first_place, tree_at, cut, name_of}
+use Rattle.vern_sentence.specs.Patterns.{Pattern, done, fixed, name, slot, option, Outcome, stuck, at_part, reading}
 use Rattle.vern_sentence.proofs.Signs.{sign_is, name_is}
 use Rattle.vern_sentence.proofs.Machines.{part_whole, part_ended, cut_over, CutAt, cut_is}
-use Rattle.vern_sentence.proofs.Readings.{Reads, sign_reads, name_reads, part_reads, takes, passes, at_cut, Example, example, part_example}
+use Rattle.vern_sentence.proofs.Readings.{Reads, sign_reads, name_reads, part_reads, takes, passes, at_cut, example, part_example}
 
 pub record Stuck (p : Pattern) (ts rest : List Lexeme) : Type 0 where
   pub front : List Lexeme

@@ -6,3 +6,11 @@
 //! any length (`Slot`) are read by machines that take one step for each token. Expressions and shapes are
 //! vern_grammar's. vern_parse has the Rust types of trees and the code.
 #![tactic(auto)]
+
+mod faults;
+mod function;
+mod trees;
+
+pub use faults::each_sentence_has_a_tree_or_a_fault;
+pub use function::the_function_reads_the_grammar;
+pub use trees::each_sentence_has_one_tree;
