@@ -3,6 +3,7 @@ pub mod Inner
 pub mod Laws
 pub mod Lists
 pub mod Machines
+pub mod Named
 pub mod Parts
 pub mod Readings
 pub mod Rows

@@ -1,4 +1,5 @@
 pub mod Evidence
+pub mod Names
 pub mod Patterns
 pub mod Reading
 pub mod Sentences
