@@ -1,11 +1,13 @@
 -- Each name in a tree is a name among the tokens.
-use Rattle.std.proofs.Common.{◌≡◌, ℕ, List, [], ◌∷◌, ◌++◌, map, Option, Some, None, refl, sym, ap, ◌∙◌, subst}
+use Rattle.std.proofs.Common.{ℕ, List, [], ◌∷◌, ◌++◌, map, refl}
 use Rattle.std.specs.List.{All, Contains}
 use Rattle.std.proofs.lemmas.List.Elements.{All-nil, All-cons, All-head, All-tail, All-contains_itself}
 use Rattle.vern_lex.specs.declared.span.Span.{Span}
+use Rattle.vern_lex.specs.declared.token.Token.{Token}
+use Rattle.vern_lex.specs.declared.token.TokenKind.{TokenKind}
 use Rattle.vern_lex.specs.declared.token.TokenKind.TheVariants as token
-use Rattle.vern_grammar.specs.Trees.{Name, Group, Expression, Expressions, nil, cons, expressions, Shape}
-use Rattle.vern_grammar.specs.Kinds.{Kind, Lexeme}
+use Rattle.vern_grammar.specs.Trees.{Name, Group, Expression, expressions, Shape}
+use Rattle.vern_grammar.specs.Kinds.{Kind, Lexeme, kind_of, slice, lexeme, lexemes}
 use Rattle.vern_grammar.specs.Kinds as kind
 use Rattle.vern_grammar.specs.Grammar.{tok, named, group, Head, operator, tilde, quantifier, governing, Next, IsOperand, constant, applied, enclosed, governed, IsApplication, alone, to_name, to_expression, IsHead, left, negating, names, groups, IsNames, IsGroup, grouped, IsGroups, one, then, IsExpression, IsShapeBehind, set, prop, arrow, plain}
 use Rattle.vern_grammar.specs.Grammar as grammar
@@ -13,7 +15,7 @@ use Rattle.vern_sentence.specs.Trees.{Sentence}
 use Rattle.vern_sentence.specs.Evidence.{IsEvidence}
 use Rattle.vern_sentence.specs.Sentences.{spelled, IsInner, AreGroups, none, more, IsSentence}
 use Rattle.vern_sentence.specs.Sentences as row
-use Rattle.vern_sentence.specs.Names.{names_of_groups, names_of_expression, names_of_expressions, names_of_shape, names_of_sentence}
+use Rattle.vern_sentence.specs.Names.{names_of_groups, names_of_expression, names_of_expressions, names_of_shape, names_of_sentence, IsNameOf}
 use Rattle.vern_sentence.proofs.Evidences.{evidence_expression}
 
 -- `All` as pairs
@@ -174,3 +176,16 @@ pub sentence_names : (text : List ℕ) (ts : List Lexeme) (t : Sentence) → IsS
 sentence_names text ts t w =
     let h = each_of (Contains ts) (AtNames (λ x. Contains ts (spelled x))) (λ k h. contained ts k.kind k.span h) ts (All-contains_itself ts) in
     all_of (λ x. Contains ts (spelled x)) (names_of_sentence t) (sentence_named (λ x. Contains ts (spelled x)) w h)
+
+each_map : {X Y : Type 0} (P : Y → Type 0) (f : X → Y) (xs : List X) → Each (λ x. P (f x)) xs → Each P (map f xs)
+each_map P f [] h = tt
+each_map P f (x ∷ xs) h = (h.0, each_map P f xs h.1)
+
+token_named : (text : List ℕ) (tokens : List Token) (k : TokenKind) (c : Span) → Contains tokens (record { kind = k; span = c }) → AtName (IsNameOf text tokens) (kind_of k (slice text c)) c
+token_named text tokens token.Name c h = (h, refl)
+token_named text tokens _ c h = tt
+
+pub token_names : (text : List ℕ) (tokens : List Token) (t : Sentence) → IsSentence text (lexemes text tokens) t → All (λ x. IsNameOf text tokens x) (names_of_sentence t)
+token_names text tokens t w =
+    let h = each_of (Contains tokens) (λ k. AtNames (IsNameOf text tokens) (lexeme text k)) (λ k h. token_named text tokens k.kind k.span h) tokens (All-contains_itself tokens) in
+    all_of (IsNameOf text tokens) (names_of_sentence t) (sentence_named (IsNameOf text tokens) w (each_map (AtNames (IsNameOf text tokens)) (lexeme text) tokens h))

@@ -9,8 +9,10 @@
 
 mod faults;
 mod function;
+mod names;
 mod trees;
 
 pub use faults::each_sentence_has_a_tree_or_a_fault;
 pub use function::the_function_reads_the_grammar;
+pub use names::names_are_names_of_the_tokens;
 pub use trees::each_sentence_has_one_tree;
