@@ -4,6 +4,7 @@ pub mod Laws
 pub mod Lists
 pub mod Machines
 pub mod Named
+pub mod Owned
 pub mod Parts
 pub mod Readings
 pub mod Rows

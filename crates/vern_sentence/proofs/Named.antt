@@ -6,6 +6,7 @@ use Rattle.vern_lex.specs.declared.span.Span.{Span}
 use Rattle.vern_lex.specs.declared.token.Token.{Token}
 use Rattle.vern_lex.specs.declared.token.TokenKind.{TokenKind}
 use Rattle.vern_lex.specs.declared.token.TokenKind.TheVariants as token
+use Rattle.vern_lex.specs.Tokens.{tokens_of}
 use Rattle.vern_grammar.specs.Trees.{Name, Group, Expression, expressions, Shape}
 use Rattle.vern_grammar.specs.Kinds.{Kind, Lexeme, kind_of, slice, lexeme, lexemes}
 use Rattle.vern_grammar.specs.Kinds as kind
@@ -15,8 +16,9 @@ use Rattle.vern_sentence.specs.Trees.{Sentence}
 use Rattle.vern_sentence.specs.Evidence.{IsEvidence}
 use Rattle.vern_sentence.specs.Sentences.{spelled, IsInner, AreGroups, none, more, IsSentence}
 use Rattle.vern_sentence.specs.Sentences as row
-use Rattle.vern_sentence.specs.Names.{names_of_groups, names_of_expression, names_of_expressions, names_of_shape, names_of_sentence, IsNameOf}
+use Rattle.vern_sentence.specs.Names.{names_of_groups, names_of_expression, names_of_expressions, names_of_shape, names_of_sentence, IsNameOf, IsFreeName}
 use Rattle.vern_sentence.proofs.Evidences.{evidence_expression}
+use Rattle.vern_sentence.proofs.Owned.{IsOwned, tokens_owned}
 
 -- `All` as pairs
 abbrev Each : {X : Type 0} → (X → Type 0) → List X → Type 0
@@ -189,3 +191,12 @@ pub token_names : (text : List ℕ) (tokens : List Token) (t : Sentence) → IsS
 token_names text tokens t w =
     let h = each_of (Contains tokens) (λ k. AtNames (IsNameOf text tokens) (lexeme text k)) (λ k h. token_named text tokens k.kind k.span h) tokens (All-contains_itself tokens) in
     all_of (IsNameOf text tokens) (names_of_sentence t) (sentence_named (IsNameOf text tokens) w (each_map (AtNames (IsNameOf text tokens)) (lexeme text) tokens h))
+
+token_free : (text : List ℕ) (k : TokenKind) (c : Span) → IsOwned text (record { kind = k; span = c }) → AtName (λ x. IsFreeName x.text) (kind_of k (slice text c)) c
+token_free text token.Name c h = h refl
+token_free text _ c h = tt
+
+pub free_names : (text : List ℕ) (t : Sentence) → IsSentence text (lexemes text (tokens_of text)) t → All (λ x. IsFreeName x.text) (names_of_sentence t)
+free_names text t w =
+    let h = each_of (IsOwned text) (λ k. AtNames (λ x. IsFreeName x.text) (lexeme text k)) (λ k h. token_free text k.kind k.span h) (tokens_of text) (tokens_owned text) in
+    all_of (λ x. IsFreeName x.text) (names_of_sentence t) (sentence_named (λ x. IsFreeName x.text) w (each_map (AtNames (λ x. IsFreeName x.text)) (lexeme text) (tokens_of text) h))

@@ -1,9 +1,10 @@
 -- The names that stand in trees, in the order of the tokens.
-use Rattle.std.specs.Prelude.{◌≡◌, ℕ, List, [], ◌∷◌, ◌++◌, Option, Some, None}
+use Rattle.std.specs.Prelude.{◌≡◌, ℕ, ◌<◌, List, [], ◌∷◌, ◌++◌, length, Option, Some, None}
 use Rattle.std.specs.List.{Contains}
 use Rattle.vern_lex.specs.declared.token.Token.{Token}
 use Rattle.vern_lex.specs.declared.token.TokenKind.TheVariants as token
 use Rattle.vern_grammar.specs.Kinds.{slice}
+use Rattle.vern_lex.specs.Tokens.{first_name, word_kind}
 use Rattle.vern_grammar.specs.Trees.{Name, Group, Expression, constant, application, binary, negation, quantified, Expressions, nil, cons, Shape, set, prop, arrow, plain}
 use Rattle.vern_sentence.specs.Trees.{Refinement, Sentence}
 use Rattle.vern_sentence.specs.Trees as made
@@ -59,3 +60,7 @@ names_of_sentence _ = []
 -- the name is a token of the kind Name, with its bytes and its span
 abbrev pub IsNameOf : List ℕ → List Token → Name → Type 0
 IsNameOf text tokens x = Contains tokens (record { kind = token.Name; span = x.span }) × (x.text ≡ slice text x.span)
+
+-- the bytes are one whole name, and no reserved word
+abbrev pub IsFreeName : List ℕ → Type 0
+IsFreeName x = (0 < length x) × (first_name x ≡ x) × (word_kind x ≡ token.Name)

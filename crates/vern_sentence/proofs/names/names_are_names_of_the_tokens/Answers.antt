@@ -6,3 +6,6 @@ returns-clause-lexemes c = laws.sentence_names
 
 pub returns-clause-tokens : goal.returns-clause-tokens
 returns-clause-tokens c = laws.token_names
+
+pub returns-clause-free : goal.returns-clause-free
+returns-clause-free c = laws.free_names
