@@ -1,5 +1,5 @@
 -- Each row of the grammar is read, and what is read is a row.
-use Rattle.std.proofs.Common.{◌≡◌, ℕ, cond, List, [], ◌∷◌, ◌++◌, map, codes, Some, None, true, false, refl, sym, ap, ◌∙◌, subst, append_assoc}
+use Rattle.std.proofs.Common.{◌≡◌, ℕ, List, [], ◌∷◌, ◌++◌, map, codes, Some, None, true, false, refl, sym, ap, ◌∙◌, subst, append_assoc, Ok}
 use Rattle.vern_lex.specs.declared.span.Span.{Span}
 use Rattle.vern_lex.specs.declared.token.TokenKind.TheVariants as token
 use Rattle.vern_grammar.specs.Trees.{Name, Group, Expression}
@@ -14,15 +14,15 @@ use Rattle.vern_sentence.specs.Sentences as row
 use Rattle.vern_sentence.specs.Words.{Word, leading, is_sign}
 use Rattle.vern_sentence.specs.Words as word
 use Rattle.vern_sentence.specs.Slots.{expression, enclosed, shape, evidence, names, groups, IsPart, first_place, tree_at, is_simple}
-use Rattle.vern_sentence.specs.Patterns.{Pattern, fixed, name, slot, option, read, reading}
+use Rattle.vern_sentence.specs.Patterns.{Pattern, fixed, name, slot, option, reading}
 use Rattle.vern_sentence.specs.Reading.{ends_as, refines, defining, two_names, arguing, following, sentence_reading}
 use Rattle.vern_sentence.proofs.Signs.{some_out}
 use Rattle.vern_sentence.proofs.Parts.{Ran}
 use Rattle.vern_sentence.proofs.Evidences.{evidence_simple, evidence_ran}
-use Rattle.vern_sentence.proofs.Readings.{Reads, done_reads, sign_reads, name_reads, part_reads, takes, passes, part_over}
+use Rattle.vern_sentence.proofs.Readings.{Reads, done_reads, sign_reads, name_reads, part_reads, takes, passes, part_over, at_choice}
 
 -- evidence and the full stop
-argued : (f : Expression → Refinement) (ts : List Lexeme) (t : Expression) (c : Span) → IsEvidence ts t → reading (arguing f) (ts ++ (stop c ∷ [])) ≡ read (made.refinement (f t))
+argued : (f : Expression → Refinement) (ts : List Lexeme) (t : Expression) (c : Span) → IsEvidence ts t → reading (arguing f) (ts ++ (stop c ∷ [])) ≡ Ok (made.refinement (f t))
 argued f ts t c w = part_over evidence (λ x. refines (f x)) ts [] (stop c) t w refl
 
 definition_rest : Name → List Group → Pattern
@@ -32,7 +32,7 @@ destruct_rest : Expression → Pattern
 destruct_rest t = option word.as_word (two_names t) (refines (made.destruct_none t))
 
 inner_read : (x : Name) (ts : List Lexeme) (t : Expression) (d e : Span) → IsInner ts t →
-    reading (slot enclosed (λ u. refines (made.assert x u))) (ts ++ (tok kind.closing d ∷ stop e ∷ [])) ≡ read (made.refinement (made.assert x t))
+    reading (slot enclosed (λ u. refines (made.assert x u))) (ts ++ (tok kind.closing d ∷ stop e ∷ [])) ≡ Ok (made.refinement (made.assert x t))
 inner_read x ts t d e w =
     ap (reading (slot enclosed (λ u. refines (made.assert x u)))) (sym (append_assoc ts (tok kind.closing d ∷ []) (stop e ∷ [])))
     ∙ part_over enclosed (λ u. refines (made.assert x u)) (ts ++ (tok kind.closing d ∷ [])) [] (stop e) t (ts, tok kind.closing d, refl, refl, w) refl
@@ -60,12 +60,10 @@ no_evidence t r =
     none_some t q = cc
 
 passed : (p q r : Pattern) (k : Lexeme) (ks : List Lexeme) → is_simple k.kind ≡ true → reading (option word.arrow p (option word.back_arrow q r)) (k ∷ ks) ≡ reading r (k ∷ ks)
-passed p q r k ks h =
-    ap (λ b. cond b (reading p ks) (cond (is_sign word.back_arrow k.kind) (reading q ks) (reading r (k ∷ ks)))) (no_arrow k.kind h)
-    ∙ ap (λ b. cond b (reading q ks) (reading r (k ∷ ks))) (no_back_arrow k.kind h)
+passed p q r k ks h = ap (at_choice p (option word.back_arrow q r) k ks) (no_arrow k.kind h) ∙ ap (at_choice q r k ks) (no_back_arrow k.kind h)
 
 plain_read : (ts : List Lexeme) (t : Expression) (b : Span) → IsEvidence ts t →
-    reading (option word.arrow (arguing (λ t. made.rewrite t false)) (option word.back_arrow (arguing (λ t. made.rewrite t true)) (arguing (λ t. made.rewrite t false)))) (ts ++ (stop b ∷ [])) ≡ read (made.refinement (made.rewrite t false))
+    reading (option word.arrow (arguing (λ t. made.rewrite t false)) (option word.back_arrow (arguing (λ t. made.rewrite t true)) (arguing (λ t. made.rewrite t false)))) (ts ++ (stop b ∷ [])) ≡ Ok (made.refinement (made.rewrite t false))
 plain_read [] t b w = absurd (no_evidence t (evidence_ran [] t w))
 plain_read (k ∷ ts) t b w = passed (arguing (λ t. made.rewrite t false)) (arguing (λ t. made.rewrite t true)) (arguing (λ t. made.rewrite t false)) k (ts ++ (stop b ∷ [])) (evidence_simple w).0 ∙ argued (λ t. made.rewrite t false) (k ∷ ts) t b w
 
@@ -75,7 +73,7 @@ assert_row text x ts t a b c e (us, k, h, p, w) =
     subst (λ l. IsSentence text (row.word (codes "assert") a ∷ tok kind.opening b ∷ spelled x ∷ tok kind.colon c ∷ l) (made.refinement (made.assert x t)))
     (sym (append_assoc us (tok kind.closing k.span ∷ []) (stop e ∷ [])) ∙ ap (λ l. l ++ (stop e ∷ [])) (ap (λ j. us ++ (tok j k.span ∷ [])) (sym h) ∙ sym p)) (row.assert x a b c k.span e w)
 
-pub accepted : {text : List ℕ} {ts : List Lexeme} {t : Sentence} → IsSentence text ts t → sentence_reading text ts ≡ read t
+pub accepted : {text : List ℕ} {ts : List Lexeme} {t : Sentence} → IsSentence text ts t → sentence_reading text ts ≡ Ok t
 unfolding definition_rest destruct_rest
 accepted (row.parameter {ts = ts} {s = s} x a b c w) = part_over shape (λ s. ends_as (made.declare x s)) ts [] (stop c) s w refl
 accepted (row.axiom_sentence {ts = ts} {s = s} x a b c w) = part_over shape (λ s. ends_as (made.declare x s)) ts [] (stop c) s w refl

@@ -1,5 +1,5 @@
 -- What follows the first token of each kind of sentence.
-use Rattle.std.specs.Prelude.{ℕ, true, false, List, [], ◌∷◌, Option, Some, None}
+use Rattle.std.specs.Prelude.{ℕ, true, false, List, [], ◌∷◌, Option, Some, None, Result, Err}
 use Rattle.vern_lex.specs.declared.span.Span.{Span}
 use Rattle.vern_grammar.specs.Trees.{Name, Group, Expression}
 use Rattle.vern_grammar.specs.Kinds.{Lexeme}
@@ -9,7 +9,7 @@ use Rattle.vern_sentence.specs.Sentences.{bullet_at}
 use Rattle.vern_sentence.specs.Words.{Word, word_of, full_stop, define, as_word, in_word, left_bracket, right_bracket, bar, back_arrow, arrow, colon, opening, prop_word}
 use Rattle.vern_sentence.specs.Words as word
 use Rattle.vern_sentence.specs.Slots.{expression, enclosed, shape, evidence, names, groups}
-use Rattle.vern_sentence.specs.Patterns.{Pattern, done, fixed, name, slot, option, Outcome, stuck, reading}
+use Rattle.vern_sentence.specs.Patterns.{Pattern, done, fixed, name, slot, option, reading}
 
 -- the full stop, and nothing more
 abbrev pub ends_as : Sentence → Pattern
@@ -76,11 +76,11 @@ following text c word.bullet = done (bullet_at text c)
 following text c word.brace_in = done made.brace_in
 following text c word.brace_out = done made.brace_out
 
-abbrev pub behind_word : List ℕ → Lexeme → List Lexeme → Option Word → Outcome
-behind_word text k ks None = stuck (k ∷ ks)
+abbrev pub behind_word : List ℕ → Lexeme → List Lexeme → Option Word → Result Sentence (List Lexeme)
+behind_word text k ks None = Err (k ∷ ks)
 behind_word text k ks (Some w) = reading (following text k.span w) ks
 
 -- the tree of the tokens, or the tokens from the faulty one on
-abbrev pub sentence_reading : List ℕ → List Lexeme → Outcome
-sentence_reading text [] = stuck []
+abbrev pub sentence_reading : List ℕ → List Lexeme → Result Sentence (List Lexeme)
+sentence_reading text [] = Err []
 sentence_reading text (k ∷ ks) = behind_word text k ks (word_of k.kind)
