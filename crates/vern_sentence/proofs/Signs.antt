@@ -1,5 +1,5 @@
 -- A token that passes a test is the one that is tested for.
-use Rattle.std.proofs.Common.{◌≡◌, ℕ, Bool, true, false, ◌⊎◌, inl, inr, List, [], ◌∷◌, nat_eq, Some, refl, sym, ap, ◌∙◌, if◌then◌else◌}
+use Rattle.std.proofs.Common.{◌≡◌, ℕ, Bool, true, false, ◌⊎◌, inl, inr, List, [], ◌∷◌, ◌++◌, nat_eq, Option, Some, None, refl, sym, ap, ◌∙◌, if◌then◌else◌}
 use Rattle.std.specs.Cmp.Lexicographic.{pointwise, same_text}
 use Rattle.vern_lex.specs.declared.span.Span.{Span}
 use Rattle.vern_lex.specs.declared.token.TokenKind.{TokenKind}
@@ -85,6 +85,20 @@ among_by x v w ws false h p f = f p
 among : (x : List ℕ) (ws : List Word) (w : Word) → word_among x ws ≡ Some w → x ≡ spelling w
 among x [] w e = cc
 among x (v ∷ ws) w e = among_by x v w ws (pointwise nat_eq x (spelling v)) refl e (λ p. among x ws w p)
+
+-- a word that is looked up in two lists
+abbrev pub or_word : Option Word → Option Word → Option Word
+or_word None m = m
+or_word (Some w) m = Some w
+
+among_both : (x : List ℕ) (v : Word) (ws vs : List Word) (b : Bool) → word_among x (ws ++ vs) ≡ or_word (word_among x ws) (word_among x vs) →
+    (if b then Some v else word_among x (ws ++ vs)) ≡ or_word (if b then Some v else word_among x ws) (word_among x vs)
+among_both x v ws vs true e = refl
+among_both x v ws vs false e = e
+
+pub among_append : (x : List ℕ) (ws vs : List Word) → word_among x (ws ++ vs) ≡ or_word (word_among x ws) (word_among x vs)
+among_append x [] vs = refl
+among_append x (v ∷ ws) vs = among_both x v ws vs (pointwise nat_eq x (spelling v)) (among_append x ws vs)
 
 no_empty : (x : List ℕ) (w : Word) → x ≡ [] → word_among x named_words ≡ Some w → ⊥
 no_empty [] w h e = cc

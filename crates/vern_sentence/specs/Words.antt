@@ -1,5 +1,5 @@
 -- The first tokens of sentences, and the signs and reserved words that stand further behind.
-use Rattle.std.specs.Prelude.{ℕ, Bool, true, false, nat_eq, List, [], ◌∷◌, codes, Option, Some, None, if◌then◌else◌}
+use Rattle.std.specs.Prelude.{ℕ, Bool, true, false, nat_eq, List, [], ◌∷◌, ◌++◌, codes, Option, Some, None, if◌then◌else◌}
 use Rattle.std.specs.Cmp.Lexicographic.{pointwise}
 use Rattle.vern_lex.specs.declared.token.TokenKind.{TokenKind}
 use Rattle.vern_lex.specs.declared.token.TokenKind.TheVariants as token
@@ -15,11 +15,16 @@ pub data Word : Type 0 where
   intro intros exact by_hypothesis apply split left right destruct exfalso assert clear reflexivity symmetry rewrite unfold_word : Word
   exists bullet brace_in brace_out : Word
 
--- the words that are names, in the order in which they are looked up
+-- the words that are names, in the order in which they are looked up: those that stand outside of proofs or begin and close them, and refinements
+abbrev pub outer_words : List Word
+outer_words = parameter ∷ axiom_word ∷ definition ∷ lemma ∷ theorem ∷ proof ∷ qed ∷ defined ∷ admitted ∷ abort ∷ []
+
+abbrev pub refinement_words : List Word
+refinement_words =
+    intro ∷ intros ∷ exact ∷ by_hypothesis ∷ apply ∷ split ∷ left ∷ right ∷ destruct ∷ exfalso ∷ assert ∷ clear ∷ reflexivity ∷ symmetry ∷ rewrite ∷ unfold_word ∷ []
+
 abbrev pub named_words : List Word
-named_words =
-    parameter ∷ axiom_word ∷ definition ∷ lemma ∷ theorem ∷ proof ∷ qed ∷ defined ∷ admitted ∷ abort ∷ intro ∷ intros ∷ exact ∷ by_hypothesis ∷ apply ∷ split
-    ∷ left ∷ right ∷ destruct ∷ exfalso ∷ assert ∷ clear ∷ reflexivity ∷ symmetry ∷ rewrite ∷ unfold_word ∷ []
+named_words = outer_words ++ refinement_words
 
 -- the text of a word that is a name
 abbrev pub spelling : Word → List ℕ
