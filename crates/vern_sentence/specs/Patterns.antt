@@ -54,7 +54,7 @@ pub data Pattern : Type 0 where
   slot : (i : Slot) → (Tree i → Pattern) → Pattern
   option : Sign → Pattern → Pattern → Pattern
 
--- The tree of the tokens, or the tokens from the one on that can't follow. Each token is looked at once, and none is given back.
+-- The tree of the tokens, or the tokens from the one on that can't follow. The tokens are gone through once, from the front.
 abbrev pub reading : Pattern → List Lexeme → Result Sentence (List Lexeme)
 reading (done t) ts = all_read t ts
 reading (fixed s p) ts = and_then (sign_front s ts) (λ us. reading p us)
