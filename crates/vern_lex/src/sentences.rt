@@ -212,10 +212,23 @@ mod tests {
     type Fault = Option<CutFault>;
 
     /// Texts with the spans of their sentences, one after the other, and the fault.
-    const CASES: [(&[u8], &[u64], Fault); 34] = [
+    const CASES: [(&[u8], &[u64], Fault); 36] = [
         (
             b"split. - exact b. - exact a. Qed.",
             &[0, 6, 7, 8, 9, 17, 18, 19, 20, 28, 29, 33],
+            None,
+        ),
+        (
+            b"Parameter A : Prop. Parameter B : Prop. Lemma c : A /\\ B -> B /\\ A. Proof. intro h. destruct h as [a b]. split. exact b. exact a. Qed.",
+            &[
+                0, 19, 20, 39, 40, 67, 68, 74, 75, 83, 84, 104, 105, 111, 112, 120, 121, 129, 130,
+                134,
+            ],
+            None,
+        ),
+        (
+            b"Parameter A : Prop. Parameter : Prop. Parameter B : Prop.",
+            &[0, 19, 20, 37, 38, 57],
             None,
         ),
         (b"", &[], None),
