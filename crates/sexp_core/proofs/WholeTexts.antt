@@ -1,15 +1,14 @@
 -- A text with a byte 10 behind it has one value as its first item.
-use Rattle.std.proofs.Common.{◌≡◌, ◌-◌, w8, option_map, ℕ, ◌+◌, ◌<◌, ◌^◌, List, [], ◌∷◌, ◌++◌, length, get_or, true, false, Option, Some, None, Fits, refl, sym, ap, ◌∙◌, subst, arith}
+use Rattle.std.proofs.Common.{◌≡◌, ◌-◌, w8, option_map, ℕ, ◌+◌, ◌<◌, ◌^◌, List, [], ◌∷◌, ◌++◌, length, get_or, false, Option, Some, None, Fits, refl, sym, ap, ◌∙◌, subst, arith}
 use Rattle.std.specs.List.{All}
-use Rattle.std.proofs.lemmas.Bool.{lt-ltb}
 use Rattle.std.proofs.lemmas.List.Elements.{All-append, All-from_get_or}
 use Rattle.sexp_theory.specs.Values.{Value}
-use Rattle.sexp_theory.specs.Written.{IsTextOf, IsShallow}
+use Rattle.sexp_theory.specs.Written.{IsTextOf}
 use Rattle.sexp_theory.specs.Items as theory
 use Rattle.sexp_theory.specs.Items.{Unread, Taken, value_item, bad_item, fed, fresh, taken}
 use Rattle.sexp_theory.proofs.Texts.{text_taken}
 use Rattle.sexp_theory.proofs.AtomTexts.{below_all}
-use Rattle.sexp_theory.proofs.Depths.{item_shallow}
+use Rattle.sexp_theory.proofs.Depths.{item_of_bytes, item_shallow}
 use Rattle.sexp_core.specs.Reading.{Reading, Gives}
 use Rattle.sexp_core.specs.Sexp.{meaning}
 use Rattle.sexp_core.specs.Candidates.{IsCandidate}
@@ -53,10 +52,9 @@ unfolding item_in
 candidate_value bytes r new sexp from to e h f g =
     let first : Taken = record { item = value_item (meaning sexp) from to; rest = new.unread } in
     let input : All (λ b. b < 256) r.unread.bytes = subst (λ (q : Reading). All (λ b. b < 256) q.unread.bytes) (sym e) (lined_bytes bytes (all_bytes bytes f)) in
-    let shallow : IsShallow first.item = item_shallow r.limit false r.unread first input g.0 in
     record {
-      of_bytes = shallow.0;
-      shallow = shallow.1;
+      of_bytes = item_of_bytes r.limit false r.unread first input g.0;
+      shallow = item_shallow r.limit false r.unread first g.0;
       only = λ v t. let same : Some (value_item (meaning sexp) from to) ≡ Some (value_item v 0 (0 + length bytes)) = only_item bytes r v (Some first) e h t g.0 in cc;
     }
 
