@@ -74,6 +74,7 @@ fn compare(
 ) -> Result<(), Fail>
     requires { nesting (meaning sexp.now) ≤ most_lists }
 {
+    values_are_of_bytes(sexp);
     let alloc = rt.alloc();
     let mut out = Out::new(MemSink::new(Vec::new(alloc), most, Vec::new(alloc)));
     write(sexp, &mut out);
