@@ -1,13 +1,13 @@
 -- Lines whose texts are of bytes, and their values.
-use Rattle.std.proofs.Common.{◌≡◌, ℕ, ◌+◌, ◌<◌, ◌≤◌, ◌^◌, ◌/◌, ◌%◌, ◌&&◌, List, [], ◌∷◌, ◌++◌, map, codes, true, Option, Some, None, refl, ◌∙◌, arith}
-use Rattle.std.specs.List.{list_all, All}
+use Rattle.std.proofs.Common.{◌≡◌, ℕ, ◌+◌, ◌<◌, ◌≤◌, ◌/◌, ◌%◌, ◌&&◌, List, [], ◌∷◌, ◌++◌, map, codes, true, Option, Some, None, refl, ◌∙◌, arith}
+use Rattle.std.specs.List.{list_all}
 use Rattle.std.specs.Fmt.{decimal}
 use Rattle.std.proofs.lemmas.Fmt.{decimal_by_steps}
 use Rattle.std.proofs.lemmas.List.Folds.{list_all-append}
 use Rattle.std.proofs.lemmas.Bool.{agree_below_at, and_from}
 use Rattle.sexp_theory.specs.Values.{Value, atom, values, HasBytes, HaveBytes}
 use Rattle.sexp_theory.proofs.AtomTexts.{is_byte, below_all}
-use Rattle.serapi_ans.specs.Lines.{number, pair, triple, list_of, answer_value, range_value, tip_value, added_value, edit_value, string_value, fault_value, exn_value, verdict_value, bad_value, line_value, IsOfBytes}
+use Rattle.serapi_ans.specs.Lines.{number, pair, triple, list_of, answer_value, range_value, tip_value, added_value, edit_value, string_value, fault_value, exn_value, verdict_value, bad_value, IsOfBytes}
 use Rattle.serapi_ans.specs.Fitting.{IsSmall, AreSmall, FitsTip, FitsEdit, FitsFaults, FitsExn, Fits, IsText, AreTexts, HaveTexts, HasExnTexts, HasTexts, IsLine}
 use Rattle.serapi_ans.specs.declared.line.Line.{Line}
 use Rattle.serapi_ans.specs.declared.line.Line.TheVariants.{Ack, Added, Canceled, EditAt, ObjList, Joined, CoqExn, OutOfMemory, Completed, Feedback, BadInput}
