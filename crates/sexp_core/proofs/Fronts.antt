@@ -130,11 +130,6 @@ first_of-ready limit bytes front m gap r g some =
     ∙ first_of-item limit from item gap.in_line some g.stops
     ∙ ap (found_from limit from 0 start) (sym (append-nil item)) ∙ r.read [] ∙ ap (found_from limit from front.seen (state_of m)) (append-nil (drop front.seen item))
 
-first_of-none : (limit at : ℕ) (in_line : Bool) (bytes : List ℕ) → length bytes ≡ 0 → (u : Unread) → taken_of false u (first_of limit (unread_of bytes at in_line)) ≡ None
-first_of-none limit at true [] e u = refl
-first_of-none limit at false [] e u = refl
-first_of-none limit at in_line (b ∷ bs) e u = absurd (omega arith)
-
 taken_of-at_end : (u : Unread) (from : ℕ) (s : State) (t : Bool) → is_outer_run s.mode s.lists ≡ t → taken_of false u (at_end from s) ≡ None
 taken_of-at_end u from s true e = ap (λ t. taken_of false u (if t then last_run s.atom from else unfinished from)) e
 taken_of-at_end u from s false e = ap (λ t. taken_of false u (if t then last_run s.atom from else unfinished from)) e
