@@ -2,4 +2,5 @@ mod Numbers
 mod Putting
 mod Inverse
 mod Told
+pub mod Fitted
 mod Readings

@@ -8,7 +8,7 @@ use Rattle.sexp_theory.proofs.Texts.{one_text}
 use Rattle.serapi_ans.specs.Lines.{number, pair, list_of, answer_value, string_value, fault_value, exn_value, line_value}
 use Rattle.serapi_ans.specs.Fitting.{IsLine}
 use Rattle.serapi_ans.specs.Reading.{line_of}
-use Rattle.serapi_ans.proofs.Inverse.{line_back}
+use Rattle.serapi_ans.proofs.Inverse.{line_back, same_line}
 use Rattle.serapi_ans.proofs.Told.{heads}
 use Rattle.serapi_ans.specs.declared.line.Line.{Line}
 use Rattle.serapi_ans.specs.declared.line.Line.TheVariants.{Ack, Added, Canceled, EditAt, ObjList, Joined, CoqExn, OutOfMemory, Completed, Feedback, BadInput}
@@ -97,6 +97,9 @@ pub other_line : (bytes : List ℕ) (v : Value) (found : Line) → IsTextOf byte
 other_line bytes v found w f unlike l h e =
     let same : line_value l ≡ v = one_text (line_value l) v h.0 w.of_bytes (e ∙ sym w.written) in
     unlike (ap (λ m. text (line_value m)) (f ∙ ap line_of (sym same) ∙ line_back l h.1) ∙ e)
+
+pub only_line : (bytes : List ℕ) (read line : Line) → text (line_value read) ≡ bytes → IsLine read → IsLine line → text (line_value line) ≡ bytes → read ≡ line
+only_line bytes read line e h k f = same_line read line h.1 k.1 (one_text (line_value read) (line_value line) h.0 k.0 (e ∙ sym f))
 
 -- ---- the byte 10 at the end
 

@@ -1,10 +1,12 @@
--- Lines whose numbers are those of Rust's: each is below 2 ^ 64.
+-- Lines whose numbers and texts are those of Rust's: each number is below 2 ^ 64, each text is of bytes.
 use Rattle.std.specs.Prelude.{ℕ, ◌<◌, ◌^◌, List, [], ◌∷◌, Option, Some, None}
+use Rattle.std.specs.List.{All}
 use Rattle.serapi_ans.specs.Lines.{IsOfBytes}
 use Rattle.serapi_ans.specs.declared.line.Line.{Line}
 use Rattle.serapi_ans.specs.declared.line.Line.TheVariants.{Ack, Added, Canceled, EditAt, ObjList, Joined, CoqExn, OutOfMemory, Completed, Feedback, BadInput}
 use Rattle.serapi_ans.specs.declared.line.EditLine.{EditLine}
 use Rattle.serapi_ans.specs.declared.line.EditLine.TheVariants.{NewTip, Focus}
+use Rattle.serapi_ans.specs.declared.line.BadText.TheVariants.{Word, BadField}
 use Rattle.serapi_ans.specs.declared.line.Exn.{Exn}
 use Rattle.serapi_ans.specs.declared.line.Exn.TheVariants.{Parse, NoOpenProof, ProofOpen, BadCloser, NotTip, NoSuchState, ZoneOpen, TooMany, Check, UnknownName, Unsupported}
 
@@ -52,6 +54,40 @@ Fits (OutOfMemory tag) = Unit {0}
 Fits (Completed tag) = Unit {0}
 Fits (Feedback id route verdict) = IsSmall id × IsSmall route
 Fits (BadInput place kind position) = IsSmall place × IsSmall position
+
+-- ---- texts
+
+abbrev pub IsText : List ℕ → Type 0
+IsText bytes = All (λ b. b < 256) bytes
+
+abbrev pub AreTexts : List (List ℕ) → Type 0
+AreTexts [] = Unit {0}
+AreTexts (text ∷ texts) = IsText text × AreTexts texts
+
+abbrev pub HaveTexts : List (ℕ × List ℕ) → Type 0
+HaveTexts [] = Unit {0}
+HaveTexts ((id, text) ∷ faults) = IsText text × HaveTexts faults
+
+abbrev pub HasExnTexts : Exn → Type 0
+HasExnTexts (Check id text) = IsText text
+HasExnTexts (UnknownName name) = IsText name
+HasExnTexts other = Unit {0}
+
+-- each text that stands in the line is of bytes
+abbrev pub HasTexts : Line → Type 0
+HasTexts (Ack tag) = IsText tag
+HasTexts (Added tag id from to tip) = IsText tag
+HasTexts (Canceled tag ids) = IsText tag
+HasTexts (EditAt tag edit) = IsText tag
+HasTexts (ObjList tag texts) = IsText tag × AreTexts texts
+HasTexts (Joined tag sentences faults) = IsText tag × HaveTexts faults
+HasTexts (CoqExn tag exn) = IsText tag × HasExnTexts exn
+HasTexts (OutOfMemory tag) = IsText tag
+HasTexts (Completed tag) = IsText tag
+HasTexts (Feedback id route None) = Unit {0}
+HasTexts (Feedback id route (Some text)) = IsText text
+HasTexts (BadInput place (Word word) position) = IsText word
+HasTexts (BadInput place (BadField name) position) = IsText name
 
 -- a line that Rust may have: of bytes, and with numbers below 2 ^ 64
 abbrev pub IsLine : Line → Type 0

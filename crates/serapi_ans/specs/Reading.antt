@@ -27,6 +27,16 @@ IsRead bytes (Ok line) = text (line_value line) ≡ bytes
 IsRead bytes (Err NotALine) = (line : Line) → IsLine line → text (line_value line) ≢ bytes
 IsRead bytes (Err NoMemory) = Unit {0}
 
+-- the line is read, or memory was wanting
+abbrev pub Reads : Line → Result Line LineFault → Type 0
+Reads line (Ok read) = read ≡ line
+Reads line (Err NotALine) = ⊥
+Reads line (Err NoMemory) = Unit {0}
+
+-- each line whose text this is, is read
+abbrev pub ReadsEach : List ℕ → Result Line LineFault → Type 0
+ReadsEach bytes result = (line : Line) → IsLine line → text (line_value line) ≡ bytes → Reads line result
+
 -- ---- parts of a value; what has none has nothing in its place
 
 abbrev pub value_in : Option (Bor Sexp) → Value

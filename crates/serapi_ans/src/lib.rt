@@ -6,6 +6,7 @@
 //! here. The layers above use `line_text`, the text of a line as a definition, and the contract of `write_line`.
 #![tactic(auto)]
 
+mod fitting;
 mod laws;
 mod line;
 mod pieces;
@@ -14,6 +15,7 @@ mod read;
 mod tests;
 mod write;
 
+pub use fitting::lines_fit;
 pub use laws::{joined_parts_are_one_line, no_line_begins_another};
 pub use line::{BadText, EditLine, Exn, FaultTexts, Line, Texts};
 pub use read::{LineFault, read_line};

@@ -4,6 +4,7 @@ ghost use Rattle.sexp_theory.specs.Values.{values};
 ghost use Rattle.sexp_theory.specs.Writing.{text};
 ghost use Rattle.sexp_core.specs.Sexp.{meaning};
 ghost use Rattle.serapi_ans.specs.Lines.{line_value};
+ghost use Rattle.serapi_ans.specs.Fitting.{IsLine};
 ghost use Rattle.serapi_ans.specs.Reading.{
   value_in,
   text_in,
@@ -35,9 +36,10 @@ ghost use Rattle.serapi_ans.specs.Reading.{
   feedback_of,
   line_of,
   IsRead,
+  ReadsEach,
 };
 
-use crate::{BadText, EditLine, Exn, FaultTexts, Line, Texts, write_line};
+use crate::{BadText, EditLine, Exn, FaultTexts, Line, Texts, lines_fit, write_line};
 use base_core::{Bytes, Ids, NoMemory};
 use sexp_core::{Sexp, read_text};
 use sqlite_items::Items;
@@ -67,17 +69,21 @@ impl From<NoMemory> for LineFault {
     }
 }
 
-/// Reads a line back from its text without the byte 10, however long it is. NotALine exactly where no line has this
-/// text; a text with a blank more, or a number with a zero before it, is no line's.
+/// Reads a line back from its text without the byte 10, however long it is: the text of each line is answered by that
+/// line, or by want of memory (`each`). NotALine exactly where no line has this text; a text with a blank more, or a
+/// number with a zero before it, is no line's.
 #[tactic(auto, using(crate::proofs::Readings::no_value, crate::proofs::Readings::other_line))]
 pub fn read_line(alloc: Global, bytes: &[u8]) -> Result<Line, LineFault>
-    ensures { IsRead bytes.now result }
+    ensures read { IsRead bytes.now result }
+    ensures is_line { IfOk result (λ line. IsLine line) }
+    ensures each { ReadsEach bytes.now result }
 {
     let Some(sexp) = read_text(alloc, bytes)? else {
         return Err(LineFault::NotALine);
     };
     let line = read_value(alloc, Some(&sexp))?;
     if is_text_of(alloc, bytes, &line)? {
+        lines_fit(&line);
         Ok(line)
     } else {
         Err(LineFault::NotALine)

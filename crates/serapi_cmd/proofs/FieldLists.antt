@@ -2,7 +2,8 @@
 use Rattle.std.proofs.Common.{◌≡◌, ◌≢◌, ◌==◌, List, [], ◌∷◌, length, None, Bool, ◌∙◌, refl, arith}
 use Rattle.std.proofs.lemmas.Bool.{ne_eqb}
 use Rattle.sexp_core.specs.declared.sexp.Sexp.{Sexp}
-use Rattle.serapi_cmd.specs.Fields.{meanings, one, two}
+use Rattle.serapi_cmd.specs.Fields.{one, two}
+use Rattle.serapi_cmd.specs.Meanings.{meanings}
 use Rattle.serapi_cmd.specs.Options.{is_printing}
 use Rattle.sexp_theory.specs.Values.{list}
 

@@ -7,8 +7,7 @@ use Rattle.serapi_cmd.specs.declared.command.Command.TheVariants as command
 use Rattle.serapi_cmd.specs.declared.command.QueryKind.{QueryKind}
 use Rattle.serapi_cmd.specs.declared.command.QueryKind.TheVariants.{Goals, Ast, Env, Definition}
 use Rattle.serapi_cmd.specs.declared.command.Tagged.{Tagged}
-use Rattle.serapi_cmd.specs.declared.reading.Word.{Word}
-use Rattle.serapi_cmd.specs.declared.reading.Word.TheVariants.{Add, Cancel, Exec, Query, Join, Quit}
+use Rattle.serapi_cmd.specs.Words.{Word, add_word, cancel_word, exec_word, query_word, join_word, quit_word, word_of}
 use Rattle.serapi_cmd.specs.Faults.{Fault, unknown_command, bad_field, and_then}
 use Rattle.serapi_cmd.specs.Fields.{is_word, one, two, pair, text, read_each}
 use Rattle.serapi_cmd.specs.Numbers.{number}
@@ -72,29 +71,19 @@ query fields = elim (two fields) [
 
 -- a list that begins with a command word; `Join` and `Quit` have no such form
 abbrev pub list_form : Word → Values → Result Command Fault
-list_form Add fields = add fields
-list_form Cancel fields = cancel fields
-list_form Exec fields = exec fields
-list_form Query fields = query fields
-list_form Join fields = Err (bad_field (codes "Join"))
-list_form Quit fields = Err (bad_field (codes "Quit"))
+list_form add_word fields = add fields
+list_form cancel_word fields = cancel fields
+list_form exec_word fields = exec fields
+list_form query_word fields = query fields
+list_form join_word fields = Err (bad_field (codes "Join"))
+list_form quit_word fields = Err (bad_field (codes "Quit"))
 
 -- ---- the first row that fits
 
-abbrev pub word_of : List ℕ → Option Word
-word_of bytes =
-    if is_word bytes (codes "Add") then Some Add
-    else (if is_word bytes (codes "Cancel") then Some Cancel
-    else (if is_word bytes (codes "Exec") then Some Exec
-    else (if is_word bytes (codes "Query") then Some Query
-    else (if is_word bytes (codes "Join") then Some Join
-    else (if is_word bytes (codes "Quit") then Some Quit
-    else None)))))
-
 -- the command that an atom alone is
 abbrev pub atom_form : Word → Option Command
-atom_form Join = Some command.Join
-atom_form Quit = Some command.Quit
+atom_form join_word = Some command.Join
+atom_form quit_word = Some command.Quit
 atom_form other = None
 
 -- without a tag: the atom `Join` or `Quit`, or a list whose first element is an atom with a command word

@@ -1,21 +1,8 @@
 -- The fields of a list.
-use Rattle.std.specs.Prelude.{ℕ, List, map, Option, Some, None, Result, Ok, Err, codes, Bool, nat_eq}
+use Rattle.std.specs.Prelude.{ℕ, List, Option, Some, None, Result, Ok, Err, codes, Bool, nat_eq}
 use Rattle.std.specs.Cmp.Lexicographic.{pointwise}
-use Rattle.std.specs.Borrow.{Bor}
-use Rattle.sexp_core.specs.declared.sexp.Sexp.{Sexp}
-use Rattle.sexp_core.specs.Sexp.{meaning}
-use Rattle.sexp_theory.specs.Values.{Value, atom, list, Values, nil, cons, values}
+use Rattle.sexp_theory.specs.Values.{Value, atom, list, Values, nil, cons}
 use Rattle.serapi_cmd.specs.Faults.{Fault, bad_field, and_then}
-
--- the values that a list of Rust's stands for
-abbrev pub meanings : List Sexp → Values
-meanings fields = values (map meaning fields)
-
-abbrev pub of_one : Bor Sexp → Value
-of_one field = meaning field.now
-
-abbrev pub of_two : Bor Sexp × Bor Sexp → Value × Value
-of_two fields = (meaning fields.0.now, meaning fields.1.now)
 
 -- the one value of a list of one
 abbrev pub one : Values → Option Value
@@ -40,9 +27,6 @@ text (list vs) = Err (bad_field (codes "text"))
 -- the bytes are those of the word
 abbrev pub is_word : List ℕ → List ℕ → Bool
 is_word bytes word = pointwise nat_eq bytes word
-
-abbrev pub of_pair : Bor (List ℕ) × Bor Sexp → List ℕ × Value
-of_pair fields = (fields.0.now, meaning fields.1.now)
 
 -- each value is read behind what those before it have given; the first fault stands
 abbrev pub read_each : {G : Type 0} → (G → Value → Result G Fault) → G → Values → Result G Fault

@@ -1,6 +1,7 @@
 //! The fields of a command.
 ghost use Rattle.std.specs.Prelude.{◌≡◌, option_map};
-ghost use Rattle.serapi_cmd.specs.Fields.{meanings, of_one, of_two, of_pair, one, two, pair, text};
+ghost use Rattle.serapi_cmd.specs.Fields.{one, two, pair, text};
+ghost use Rattle.serapi_cmd.specs.Meanings.{meanings, of_one, of_two, of_pair};
 ghost use Rattle.sexp_core.specs.Sexp.{meaning};
 ghost use Rattle.serapi_cmd.specs.Faults.{Gives};
 

@@ -3,7 +3,8 @@ ghost use Rattle.std.specs.Prelude.{◌≡◌};
 ghost use Rattle.sexp_core.specs.Sexp.{meaning};
 ghost use Rattle.sexp_theory.specs.Values.{list};
 ghost use Rattle.serapi_cmd.specs.Faults.{Gives};
-ghost use Rattle.serapi_cmd.specs.Fields.{meanings, read_each};
+ghost use Rattle.serapi_cmd.specs.Fields.{read_each};
+ghost use Rattle.serapi_cmd.specs.Meanings.{meanings};
 ghost use Rattle.serapi_cmd.specs.Options.{
   flag,
   add_setting,
@@ -24,20 +25,37 @@ use crate::number::read_number;
 use crate::{AddOpts, CmdFault, QueryOpts};
 use sexp_core::Sexp;
 use std::alloc::Global;
+use std::marker::Model;
 
 /// What the options of an Add have given so far.
-#[derive(Clone, Copy)]
+#[derive(Drop)]
 struct AddGiven {
     ontop: Option<u64>,
     lim: Option<u64>,
     verb: Option<bool>,
 }
 
+impl Model for AddGiven {
+    ghost use Rattle.serapi_cmd.specs.Options.{AddSettings};
+
+    ghost Value = { AddSettings };
+
+    ghost view = { λ g. record { ontop = g.ontop; lim = g.lim; verb = g.verb } };
+}
+
 /// What the options of a Query have given so far.
-#[derive(Clone, Copy)]
+#[derive(Drop)]
 struct QueryGiven {
     sid: Option<u64>,
     pp: bool,
+}
+
+impl Model for QueryGiven {
+    ghost use Rattle.serapi_cmd.specs.Options.{QuerySettings};
+
+    ghost Value = { QuerySettings };
+
+    ghost view = { λ g. record { sid = g.sid; pp = g.pp } };
 }
 
 /// The options of an Add: the first that has a fault gives it.

@@ -1,9 +1,11 @@
 //! Values read as commands.
-ghost use Rattle.std.specs.Prelude.{◌≡◌, IfOk, []};
+ghost use Rattle.std.specs.Prelude.{◌≡◌, IfOk, [], option_map};
 ghost use Rattle.std.specs.Fmt.{decimal};
 ghost use Rattle.sexp_core.specs.Sexp.{meaning};
 ghost use Rattle.serapi_cmd.specs.Faults.{Gives, OptionGives};
-ghost use Rattle.serapi_cmd.specs.Fields.{meanings, read_each};
+ghost use Rattle.serapi_cmd.specs.Fields.{read_each};
+ghost use Rattle.serapi_cmd.specs.Meanings.{meanings, word_meaning};
+ghost use Rattle.serapi_cmd.specs.Words.{word_of};
 ghost use Rattle.serapi_cmd.specs.Commands.{
   add,
   add_id,
@@ -14,7 +16,6 @@ ghost use Rattle.serapi_cmd.specs.Commands.{
   kind,
   query,
   list_form,
-  word_of,
   atom_form,
   untagged,
   reading,
@@ -42,7 +43,7 @@ enum Word {
 
 impl Word {
     fn of(bytes: &[u8]) -> Option<Word>
-        ensures { result ≡ word_of bytes.now }
+        ensures { option_map word_meaning result ≡ word_of bytes.now }
     {
         if bytes == b"Add".as_slice() {
             Some(Word::Add)
@@ -63,7 +64,7 @@ impl Word {
 
     /// The command that an atom alone is.
     fn alone(self) -> Option<Command>
-        ensures { result ≡ atom_form self }
+        ensures { result ≡ atom_form (word_meaning self) }
     {
         match self {
             Word::Join => Some(Command::Join),
@@ -119,7 +120,7 @@ fn read_untagged(alloc: Global, value: &Sexp) -> Option<Result<Command, CmdFault
 
 /// A list that begins with a command word, of its fields behind that.
 fn read_list(alloc: Global, word: Word, fields: &[Sexp]) -> Result<Command, CmdFault>
-    ensures { Gives result (list_form word (meanings fields.now)) }
+    ensures { Gives result (list_form (word_meaning word) (meanings fields.now)) }
 {
     match word {
         Word::Add => read_add(alloc, fields),

@@ -1,23 +1,26 @@
 -- How a Reader goes on.
 use Rattle.std.proofs.Common.{◌≡◌, ℕ, ◌+◌, ◌-◌, ◌<◌, ◌≤◌, ◌^◌, zero, suc, List, [], ◌∷◌, ◌++◌, length, drop, Bool, true, false, Some, None, refl, sym, ap, ◌∙◌, subst, arith, add-zero, append_assoc, length-drop, length-append}
 use Rattle.std.specs.Prelude.{if◌then◌else◌, Option, option_map}
+use Rattle.std.specs.List.{All}
 use Rattle.std.proofs.lemmas.List.{append-nil, drop_all, drop-drop, drop-append-le}
-use Rattle.sexp_theory.specs.Values.{atom}
-use Rattle.sexp_theory.specs.Places.{Found, nothing, last_run, unfinished}
+use Rattle.sexp_theory.specs.Values.{atom, nesting, HasBytes}
+use Rattle.sexp_theory.specs.Written.{IsOfBytes}
+use Rattle.sexp_theory.specs.Places.{Found, nothing, last_run, unfinished, value, most_lists}
 use Rattle.sexp_theory.specs.Machine.{State, start, found_from, at_end, is_outer_run}
-use Rattle.sexp_theory.specs.Items.{Item, Unread, without_gap, first_of, taken, taken_of, behind_rest_of_line, fed, value_item, bad_item, end_of, end_up_to, end_of_found}
+use Rattle.sexp_theory.specs.Items.{Item, Unread, Taken, from_offset, without_gap, first_of, taken, taken_of, behind_rest_of_line, fed, value_item, bad_item, end_of, end_up_to, end_of_found}
 use Rattle.sexp_theory.specs.declared.input.BadKind.{BadKind}
 use Rattle.sexp_theory.specs.declared.input.InputEnd.TheVariants.{Clean, Truncated}
 use Rattle.sexp_core.specs.Sexp.{meaning}
 use Rattle.sexp_core.specs.State.{state_of}
 use Rattle.sexp_core.specs.Reading.{Reading}
-use Rattle.sexp_core.specs.Progress.{unread_of, unread_from, BeginsItem, IsFrontGap, IsFront, Scans}
+use Rattle.sexp_core.specs.Progress.{unread_of, unread_from, BeginsItem, IsFrontGap, Finds, IsFront, Scans}
 use Rattle.sexp_core.specs.declared.sexp.Sexp.{Sexp}
 use Rattle.sexp_core.specs.declared.machine.Machine.{Machine}
 use Rattle.sexp_core.specs.declared.scan.Scanned.{Scanned}
 use Rattle.sexp_core.specs.declared.scan.Scanned.TheVariants as scanned
 use Rattle.sexp_core.specs.declared.scan.Gap.{Gap}
 use Rattle.sexp_core.specs.declared.scan.Front.{Front}
+use Rattle.sexp_theory.proofs.Depths.{item_of_bytes, item_shallow}
 use Rattle.sexp_core.proofs.Gaps.{at_item-same, first_of-without_gap, first_of-item}
 
 -- nothing was looked at
@@ -127,11 +130,6 @@ first_of-ready limit bytes front m gap r g some =
     ∙ first_of-item limit from item gap.in_line some g.stops
     ∙ ap (found_from limit from 0 start) (sym (append-nil item)) ∙ r.read [] ∙ ap (found_from limit from front.seen (state_of m)) (append-nil (drop front.seen item))
 
-first_of-none : (limit at : ℕ) (in_line : Bool) (bytes : List ℕ) → length bytes ≡ 0 → (u : Unread) → taken_of false u (first_of limit (unread_of bytes at in_line)) ≡ None
-first_of-none limit at true [] e u = refl
-first_of-none limit at false [] e u = refl
-first_of-none limit at in_line (b ∷ bs) e u = absurd (omega arith)
-
 taken_of-at_end : (u : Unread) (from : ℕ) (s : State) (t : Bool) → is_outer_run s.mode s.lists ≡ t → taken_of false u (at_end from s) ≡ None
 taken_of-at_end u from s true e = ap (λ t. taken_of false u (if t then last_run s.atom from else unfinished from)) e
 taken_of-at_end u from s false e = ap (λ t. taken_of false u (if t then last_run s.atom from else unfinished from)) e
@@ -175,18 +173,27 @@ pub record Looked (limit : ℕ) (bytes : List ℕ) (front : Front) (m : Machine)
   pub is_gap : IsFrontGap (drop front.start bytes) front.skipping gap
   pub is_item : drop gap.len (drop front.start bytes) ≡ item
   pub is_ready : IsReady limit bytes front m gap
+  pub of_bytes : All (λ b. b < 256) (drop front.start bytes)
 
-pub looked : (limit : ℕ) (bytes : List ℕ) (front : Front) (m : Machine) (gap : Gap) (item : List ℕ) (r : Reading) (buffer unread : List ℕ)
-    → ◌≡◌ {A = Reading} (record { unread = unread_from bytes front; limit = limit }) r → IsFront limit bytes front m → buffer ≡ bytes → unread ≡ drop front.start buffer
-    → IsFrontGap unread front.skipping gap → item ≡ drop gap.len unread → Looked limit bytes front m gap item r
-looked limit bytes front m gap item r buffer unread v f b u g i =
-    let e : unread ≡ drop front.start bytes = u ∙ ap (drop front.start) b in
-    let g' : IsFrontGap (drop front.start bytes) front.skipping gap = subst (λ xs. IsFrontGap xs front.skipping gap) e g in
-    record { is_view = v; is_front = f; is_gap = g'; is_item = ap (drop gap.len) (sym e) ∙ sym i; is_ready = ready limit bytes front m gap f g' }
+pub looked : {limit : ℕ} {bytes : List ℕ} {front : Front} {m : Machine} {gap : Gap} {item : List ℕ} {r : Reading} {buffer : List ℕ}
+    → IsFront limit bytes front m → Finds buffer front gap item → ◌≡◌ {A = Reading} (record { unread = unread_from bytes front; limit = limit }) r → buffer ≡ bytes
+    → Looked limit bytes front m gap item r
+looked {limit = limit} {bytes = bytes} {front = front} {m = m} {gap = gap} {item = item} f found v b =
+    let here : Finds bytes front gap item = subst (λ xs. Finds xs front gap item) b found in record {
+      is_view = v;
+      is_front = f;
+      is_gap = here.is_gap;
+      is_item = here.is_item;
+      is_ready = ready limit bytes front m gap f here.is_gap;
+      of_bytes = here.of_bytes;
+    }
 
-module _ (limit : ℕ) (bytes : List ℕ) (front : Front) (m : Machine) (gap : Gap) (item : List ℕ) (r : Reading) (l : Looked limit bytes front m gap item r) where
+module _ {limit : ℕ} {bytes : List ℕ} {front : Front} {m : Machine} {gap : Gap} {item : List ℕ} {r : Reading} (l : Looked limit bytes front m gap item r) where
   pub seen_within : front.seen ≤ length item
   seen_within = subst (λ xs. front.seen ≤ length xs) l.is_item l.is_ready.within
+
+  pub unread-of_bytes : All (λ b. b < 256) r.unread.bytes
+  unread-of_bytes = subst (λ (r : Reading). All (λ b. b < 256) r.unread.bytes) l.is_view l.of_bytes
 
   pub item_length : front.start + gap.len + length item ≡ length bytes
   item_length =
@@ -209,30 +216,33 @@ module _ (limit : ℕ) (bytes : List ℕ) (front : Front) (m : Machine) (gap : G
       sym (first_of-without_gap limit front.at (drop front.start bytes) front.skipping) ∙ ap (first_of limit) (l.is_gap.gone front.at)
       ∙ none gap.in_line (drop gap.len (drop front.start bytes)) (ap length l.is_item ∙ e)
 
-  pub front-empty : length item ≡ 0
-      → IsFront limit bytes (record { start = front.start + gap.len; at = front.at + gap.len; skipping = gap.in_line; seen = 0 }) m
-  front-empty e =
+  pub front-empty : (next : Front) → next ≡ record { start = front.start + gap.len; at = front.at + gap.len; skipping = gap.in_line; seen = 0 }
+      → length item ≡ 0 → IsFront limit bytes next m
+  front-empty next is e =
       let n = item_length in
       let some : 0 < front.seen → 0 < length item = λ lt. subst (λ xs. 0 < length xs) l.is_item (l.is_ready.some lt) in
       let none : front.seen ≡ 0 = omega (arith, seen_within) in
-      front-unseen limit bytes (front.start + gap.len) (front.at + gap.len) gap.in_line m (omega arith) (omega (arith, l.is_front.room, l.is_front.within)) (l.is_ready.clean none)
+      subst (λ f. IsFront limit bytes f m) (sym is)
+      (front-unseen limit bytes (front.start + gap.len) (front.at + gap.len) gap.in_line m (omega arith) (omega (arith, l.is_front.room, l.is_front.within)) (l.is_ready.clean none))
 
   -- what stands first is the same without the gap
   first_of-left : (f : Found) → first_of limit (unread_from bytes front) ≡ f
       → first_of limit (unread_of (drop (front.start + gap.len) bytes) (front.at + gap.len) gap.in_line) ≡ f
   first_of-left f e = ap (first_of limit) gone ∙ first_of-without_gap limit front.at (drop front.start bytes) front.skipping ∙ e
 
-  pub gives-empty : length item ≡ 0
-      → (taken r.limit false r.unread ≡ None)
-      × (taken limit false (unread_from bytes (record { start = front.start + gap.len; at = front.at + gap.len; skipping = gap.in_line; seen = 0 })) ≡ None)
-      × ◌≡◌ {A = Reading} (record { unread = unread_from bytes (record { start = front.start + gap.len; at = front.at + gap.len; skipping = gap.in_line; seen = 0 }); limit = limit })
-      (record { unread = without_gap r.unread; limit = r.limit })
-  gives-empty e =
-      let left : Unread = unread_from bytes (record { start = front.start + gap.len; at = front.at + gap.len; skipping = gap.in_line; seen = 0 }) in
-      let R : Reading → Type 0 = λ r. (taken r.limit false r.unread ≡ None) × (taken limit false left ≡ None)
-      × ◌≡◌ {A = Reading} (record { unread = unread_from bytes (record { start = front.start + gap.len; at = front.at + gap.len; skipping = gap.in_line; seen = 0 }); limit = limit })
-      (record { unread = without_gap r.unread; limit = r.limit }) in
-      subst R l.is_view (ap (taken_of false (unread_from bytes front)) (first_of-nothing e), ap (taken_of false left) (first_of-left nothing (first_of-nothing e)), ap (λ u. record { unread = u; limit = limit }) gone)
+  pub gives-empty : (next : Front) → next ≡ record { start = front.start + gap.len; at = front.at + gap.len; skipping = gap.in_line; seen = 0 } → length item ≡ 0
+      → (taken r.limit false r.unread ≡ None) × (taken limit false (unread_from bytes next) ≡ None)
+      × ◌≡◌ {A = Reading} (record { unread = unread_from bytes next; limit = limit }) (record { unread = without_gap r.unread; limit = r.limit })
+  gives-empty next is e =
+      let R : Front → Reading → Type 0 = λ next r. (taken r.limit false r.unread ≡ None) × (taken limit false (unread_from bytes next) ≡ None)
+      × ◌≡◌ {A = Reading} (record { unread = unread_from bytes next; limit = limit }) (record { unread = without_gap r.unread; limit = r.limit }) in
+      let here : Front = record { start = front.start + gap.len; at = front.at + gap.len; skipping = gap.in_line; seen = 0 } in
+      let left : Unread = unread_from bytes here in
+      subst (λ f. R f r) (sym is) (subst (R here) l.is_view (
+        ap (taken_of false (unread_from bytes front)) (first_of-nothing e),
+        ap (taken_of false left) (first_of-left nothing (first_of-nothing e)),
+        ap (λ u. record { unread = u; limit = limit }) gone,
+      ))
 
   pub finishes-empty : length item ≡ 0
       → ◌≡◌ {A = Option Item} None (option_map (λ t. t.item) (taken r.limit true r.unread)) × (Clean ≡ end_of r.limit r.unread)
@@ -251,7 +261,10 @@ module _ (limit : ℕ) (bytes : List ℕ) (front : Front) (m : Machine) (gap : G
         ∙ ap (λ xs. found_from limit (front.at + gap.len) front.seen (state_of m) (drop front.seen xs)) l.is_item
 
     -- the item goes on
-    module _ (n : Machine) (s : Scans limit (front.at + gap.len) front.seen (state_of m) (drop front.seen item) scanned.More n) where
+    module _ (sc : Scanned) (n : Machine) (is : sc ≡ scanned.More) (scans : Scans limit (front.at + gap.len) front.seen (state_of m) (drop front.seen item) sc n) where
+      s : Scans limit (front.at + gap.len) front.seen (state_of m) (drop front.seen item) scanned.More n
+      s = subst (λ sc. Scans limit (front.at + gap.len) front.seen (state_of m) (drop front.seen item) sc n) is scans
+
       all_seen : front.seen + length (drop front.seen item) ≡ length item
       all_seen = omega (arith, seen_within, length-drop front.seen item)
 
@@ -312,7 +325,7 @@ module _ (limit : ℕ) (bytes : List ℕ) (front : Front) (m : Machine) (gap : G
           )
 
       pub finishes-last : (v : Sexp) (end : ℕ) → is_outer_run (state_of n).mode (state_of n).lists ≡ true → meaning v ≡ atom (state_of n).atom
-          → end ≡ front.at + length (drop front.start bytes)
+          → end ≡ r.unread.at + length r.unread.bytes
           → ◌≡◌ {A = Option Item} (Some (value_item (meaning v) (front.at + gap.len) end)) (option_map (λ t. t.item) (taken r.limit true r.unread))
           × (Clean ≡ end_of r.limit r.unread)
       finishes-last v end e g h =
@@ -321,9 +334,10 @@ module _ (limit : ℕ) (bytes : List ℕ) (front : Front) (m : Machine) (gap : G
           × (Clean ≡ end_of r.limit r.unread) in
           let u : Unread = unread_from bytes front in
           let f : first_of limit u ≡ last_run (state_of n).atom (front.at + gap.len) = first_of-more ∙ at_end-last (front.at + gap.len) (state_of n) e in
+          let at_end : end ≡ front.at + length (drop front.start bytes) = h ∙ ap (λ (r : Reading). r.unread.at + length r.unread.bytes) (sym l.is_view) in
           let long : 0 < length (drop front.start bytes) = omega (arith, item_length, length-drop front.start bytes) in
           subst R l.is_view (
-            ap (λ w. Some (value_item w (front.at + gap.len) end)) g ∙ ap (λ k. Some (value_item (atom (state_of n).atom) (front.at + gap.len) k)) h
+            ap (λ w. Some (value_item w (front.at + gap.len) end)) g ∙ ap (λ k. Some (value_item (atom (state_of n).atom) (front.at + gap.len) k)) at_end
                 ∙ sym (ap (λ f. option_map (λ t. t.item) (taken_of true u f)) f),
             sym (end-last limit (length (drop front.start bytes)) u (state_of n).atom (front.at + gap.len) f refl long),
           )
@@ -341,27 +355,55 @@ module _ (limit : ℕ) (bytes : List ℕ) (front : Front) (m : Machine) (gap : G
         ] scans not
 
     -- the item ends, or a bad place is shown
-    pub gives-whole : (v : Sexp) (to : ℕ) (n : Machine) → Scans limit (front.at + gap.len) front.seen (state_of m) (drop front.seen item) (scanned.Whole v to) n
-        → (next : Front) → next ≡ record { start = front.start + (to - front.at); at = to; skipping = false; seen = 0 }
-        → (taken r.limit false r.unread ≡ Some (record { item = value_item (meaning v) (front.at + gap.len) to; rest = unread_from bytes next })) × (limit ≡ r.limit)
-    gives-whole v to n s next e =
-        let R : Reading → Type 0 = λ r.
-        (taken r.limit false r.unread ≡ Some (record { item = value_item (meaning v) (front.at + gap.len) to; rest = unread_from bytes next })) × (limit ≡ r.limit) in
+    module _ (v : Sexp) (to : ℕ) (sc : Scanned) (n : Machine) (is : sc ≡ scanned.Whole v to)
+        (scans : Scans limit (front.at + gap.len) front.seen (state_of m) (drop front.seen item) sc n) where
+      whole : first_of limit (unread_from bytes front) ≡ value (meaning v) (front.at + gap.len) to
+      whole = found_is ∙ (subst (λ sc. Scans limit (front.at + gap.len) front.seen (state_of m) (drop front.seen item) sc n) is scans).0
+
+      taken_whole : taken r.limit false r.unread ≡ Some (record { item = value_item (meaning v) (front.at + gap.len) to; rest = from_offset to r.unread })
+      taken_whole =
+          subst (λ r. taken r.limit false r.unread ≡ Some (record { item = value_item (meaning v) (front.at + gap.len) to; rest = from_offset to r.unread })) l.is_view
+          (ap (taken_of false (unread_from bytes front)) whole)
+
+      pub gives-whole : (next : Front) → next ≡ record { start = front.start + (to - front.at); at = to; skipping = false; seen = 0 }
+          → (taken r.limit false r.unread ≡ Some (record { item = value_item (meaning v) (front.at + gap.len) to; rest = unread_from bytes next })) × (limit ≡ r.limit)
+      gives-whole next e =
+          let R : Reading → Type 0 = λ r.
+          (taken r.limit false r.unread ≡ Some (record { item = value_item (meaning v) (front.at + gap.len) to; rest = unread_from bytes next })) × (limit ≡ r.limit) in
+          subst R l.is_view (
+            ap (taken_of false (unread_from bytes front)) whole
+                ∙ ap (λ xs. Some (record { item = value_item (meaning v) (front.at + gap.len) to; rest = unread_of xs to false })) (drop-drop (to - front.at) front.start bytes)
+                ∙ ap (λ f. Some (record { item = value_item (meaning v) (front.at + gap.len) to; rest = unread_from bytes f })) (sym e),
+            refl,
+          )
+
+      pub whole-of_bytes : HasBytes (meaning v)
+      whole-of_bytes = item_of_bytes r.limit false r.unread _ unread-of_bytes taken_whole
+
+      pub whole-shallow : nesting (meaning v) ≤ most_lists
+      whole-shallow = item_shallow r.limit false r.unread _ taken_whole
+
+    pub gives-bad : (kind : BadKind) (place : ℕ) (sc : Scanned) (n : Machine) → sc ≡ scanned.Bad kind place
+        → Scans limit (front.at + gap.len) front.seen (state_of m) (drop front.seen item) sc n
+        → (buffer : List ℕ) (before : ℕ) (next : Front) → buffer ≡ bytes → before ≡ place - front.at
+        → unread_from buffer next ≡ behind_rest_of_line place (drop (front.start + before) buffer)
+        → (taken r.limit false r.unread ≡ Some (record { item = bad_item place kind; rest = unread_from bytes next })) × (limit ≡ r.limit)
+    gives-bad kind place sc n is scans buffer before next b e f =
+        let R : Reading → Type 0 = λ r. (taken r.limit false r.unread ≡ Some (record { item = bad_item place kind; rest = unread_from bytes next })) × (limit ≡ r.limit) in
+        let shown = (subst (λ sc. Scans limit (front.at + gap.len) front.seen (state_of m) (drop front.seen item) sc n) is scans).0 in
+        let here : unread_from bytes next ≡ behind_rest_of_line place (drop (front.start + (place - front.at)) bytes) =
+        subst (λ xs. unread_from xs next ≡ behind_rest_of_line place (drop (front.start + before) xs)) b f ∙ ap (λ k. behind_rest_of_line place (drop (front.start + k) bytes)) e in
         subst R l.is_view (
-          ap (taken_of false (unread_from bytes front)) (found_is ∙ s.0)
-              ∙ ap (λ xs. Some (record { item = value_item (meaning v) (front.at + gap.len) to; rest = unread_of xs to false })) (drop-drop (to - front.at) front.start bytes)
-              ∙ ap (λ f. Some (record { item = value_item (meaning v) (front.at + gap.len) to; rest = unread_from bytes f })) (sym e),
+          ap (taken_of false (unread_from bytes front)) (found_is ∙ shown)
+              ∙ ap (λ xs. Some (record { item = bad_item place kind; rest = behind_rest_of_line place xs })) (drop-drop (place - front.at) front.start bytes)
+              ∙ ap (λ u. Some (record { item = bad_item place kind; rest = u })) (sym here),
           refl,
         )
 
-    pub gives-bad : (kind : BadKind) (place : ℕ) (n : Machine) → Scans limit (front.at + gap.len) front.seen (state_of m) (drop front.seen item) (scanned.Bad kind place) n
-        → (rest : Unread) → rest ≡ behind_rest_of_line place (drop (front.start + (place - front.at)) bytes)
-        → (taken r.limit false r.unread ≡ Some (record { item = bad_item place kind; rest = rest })) × (limit ≡ r.limit)
-    gives-bad kind place n s rest e =
-        let R : Reading → Type 0 = λ r. (taken r.limit false r.unread ≡ Some (record { item = bad_item place kind; rest = rest })) × (limit ≡ r.limit) in
-        subst R l.is_view (
-          ap (taken_of false (unread_from bytes front)) (found_is ∙ s.0)
-              ∙ ap (λ xs. Some (record { item = bad_item place kind; rest = behind_rest_of_line place xs })) (drop-drop (place - front.at) front.start bytes)
-              ∙ ap (λ u. Some (record { item = bad_item place kind; rest = u })) (sym e),
-          refl,
-        )
+-- the last item of an input is of bytes
+last_taken : (o : Option Taken) (i : Item) → Some i ≡ option_map (λ t. t.item) o → (t : Taken) × (o ≡ Some t) × (t.item ≡ i)
+last_taken None i e = cc
+last_taken (Some t) i e = (t, refl, cc)
+
+pub last-of_bytes : (r : Reading) (i : Item) → All (λ b. b < 256) r.unread.bytes → Some i ≡ option_map (λ t. t.item) (taken r.limit true r.unread) → IsOfBytes i
+last-of_bytes r i h e = let t = last_taken (taken r.limit true r.unread) i e in subst IsOfBytes t.2 (item_of_bytes r.limit true r.unread t.0 h t.1)

@@ -8,14 +8,13 @@ use Rattle.sexp_theory.specs.Places.{Found}
 use Rattle.sexp_theory.specs.Machine.{found, found_behind_line, found_from, start}
 use Rattle.sexp_theory.specs.Items.{Unread, without_gap, behind_gap, behind_line, first_of}
 use Rattle.sexp_core.specs.Progress.{unread_of, BeginsItem, IsFrontGap}
-use Rattle.sexp_core.specs.declared.scan.Gap.{Gap}
 
 -- the first n bytes stand in front of the first item, and end in a line that is passed over or not
-abbrev pub Passed : List ℕ → Bool → ℕ → Bool → Type 0
-Passed bytes skipping n in_line = (at : ℕ) → without_gap (unread_of bytes at skipping) ≡ without_gap (unread_of (drop n bytes) (at + n) in_line)
+pub record Passed (bytes : List ℕ) (skipping : Bool) (n : ℕ) (in_line : Bool) : Type 0 where
+  pub same : (at : ℕ) → without_gap (unread_of bytes at skipping) ≡ without_gap (unread_of (drop n bytes) (at + n) in_line)
 
 pub passed-none : (bytes : List ℕ) (skipping : Bool) → Passed bytes skipping 0 skipping
-passed-none bytes skipping at = ap (λ k. without_gap (unread_of bytes k skipping)) (sym (add-zero at))
+passed-none bytes skipping = record { same = λ at. ap (λ k. without_gap (unread_of bytes k skipping)) (sym (add-zero at)) }
 
 -- one byte more is passed over
 abbrev pub PassesByte : ℕ → Bool → Bool → Type 0
@@ -31,32 +30,29 @@ pub passes-line : (b : ℕ) (t : Bool) → (b == 10) ≡ t → PassesByte b true
 passes-line b true e at rest = ap (λ t. if t then behind_gap (at + 1) rest else behind_line (at + 1) rest) e
 passes-line b false e at rest = ap (λ t. if t then behind_gap (at + 1) rest else behind_line (at + 1) rest) e
 
-pub passed-more : (bytes : List ℕ) (skipping : Bool) (n : ℕ) (before behind : Bool) → n < length bytes → PassesByte (get_or bytes n 0) before behind
-    → Passed bytes skipping n before → Passed bytes skipping (n + 1) behind
-passed-more bytes skipping n before behind lt step p at =
-    let e : suc n ≡ n + 1 = omega arith in
-    let f : at + n + 1 ≡ at + (n + 1) = omega arith in
-    p at ∙ ap (λ xs. without_gap (unread_of xs (at + n) before)) (drop-cons bytes n 0 lt) ∙ step (at + n) (drop (suc n) bytes)
-    ∙ ap (λ k. without_gap (unread_of (drop (suc n) bytes) k behind)) f ∙ ap (λ k. without_gap (unread_of (drop k bytes) (at + (n + 1)) behind)) e
+-- the three ways to pass over a byte more
+module _ {bytes : List ℕ} {skipping : Bool} {n : ℕ} {before behind : Bool} (p : Passed bytes skipping n before) (lt : n < length bytes) where
+  passes : PassesByte (get_or bytes n 0) before behind → Passed bytes skipping (n + 1) behind
+  passes step = record {
+    same = λ at.
+        let e : suc n ≡ n + 1 = omega arith in
+        let f : at + n + 1 ≡ at + (n + 1) = omega arith in
+        p.same at ∙ ap (λ xs. without_gap (unread_of xs (at + n) before)) (drop-cons bytes n 0 lt) ∙ step (at + n) (drop (suc n) bytes)
+        ∙ ap (λ k. without_gap (unread_of (drop (suc n) bytes) k behind)) f ∙ ap (λ k. without_gap (unread_of (drop k bytes) (at + (n + 1)) behind)) e;
+  }
 
--- the three ways to pass over a byte
-pub passed-line : (bytes : List ℕ) (skipping : Bool) (n : ℕ) (before behind : Bool) → n < length bytes → before ≡ true → behind ≡ not (get_or bytes n 0 == 10)
-    → Passed bytes skipping n before → Passed bytes skipping (n + 1) behind
-passed-line bytes skipping n before behind lt e f =
-    let b : ℕ = get_or bytes n 0 in
-    passed-more bytes skipping n before behind lt (subst (λ t. PassesByte b t behind) (sym e) (subst (λ t. PassesByte b true t) (sym f) (passes-line b (b == 10) refl)))
+  pub passed-line : before ≡ true → behind ≡ not (get_or bytes n 0 == 10) → Passed bytes skipping (n + 1) behind
+  passed-line e f =
+      let b : ℕ = get_or bytes n 0 in
+      passes (subst (λ t. PassesByte b t behind) (sym e) (subst (λ t. PassesByte b true t) (sym f) (passes-line b (b == 10) refl)))
 
-pub passed-comment : (bytes : List ℕ) (skipping : Bool) (n : ℕ) (before behind : Bool) → n < length bytes → before ≡ false → get_or bytes n 0 ≡ 59 → behind ≡ true
-    → Passed bytes skipping n before → Passed bytes skipping (n + 1) behind
-passed-comment bytes skipping n before behind lt e f g =
-    passed-more bytes skipping n before behind lt
-    (subst (λ t. PassesByte (get_or bytes n 0) t behind) (sym e) (subst (λ t. PassesByte (get_or bytes n 0) false t) (sym g) (subst (λ b. PassesByte b false true) (sym f) passes-comment)))
+  pub passed-comment : before ≡ false → get_or bytes n 0 ≡ 59 → behind ≡ true → Passed bytes skipping (n + 1) behind
+  passed-comment e f g =
+      passes (subst (λ t. PassesByte (get_or bytes n 0) t behind) (sym e) (subst (λ t. PassesByte (get_or bytes n 0) false t) (sym g) (subst (λ b. PassesByte b false true) (sym f) passes-comment)))
 
-pub passed-blank : (bytes : List ℕ) (skipping : Bool) (n : ℕ) (before behind : Bool) → n < length bytes → before ≡ false → true ≡ is_blank (get_or bytes n 0)
-    → behind ≡ before → Passed bytes skipping n before → Passed bytes skipping (n + 1) behind
-passed-blank bytes skipping n before behind lt e f g =
-    passed-more bytes skipping n before behind lt
-    (subst (λ t. PassesByte (get_or bytes n 0) t behind) (sym e) (subst (λ t. PassesByte (get_or bytes n 0) false t) (sym (g ∙ e)) (passes-blank (get_or bytes n 0) (sym f))))
+  pub passed-blank : before ≡ false → true ≡ is_blank (get_or bytes n 0) → behind ≡ before → Passed bytes skipping (n + 1) behind
+  passed-blank e f g =
+      passes (subst (λ t. PassesByte (get_or bytes n 0) t behind) (sym e) (subst (λ t. PassesByte (get_or bytes n 0) false t) (sym (g ∙ e)) (passes-blank (get_or bytes n 0) (sym f))))
 
 -- an item begins
 pub at_item : (at b : ℕ) (rest : List ℕ) → is_blank b ≡ false → (b == 59) ≡ false → without_gap (unread_of (b ∷ rest) at false) ≡ unread_of (b ∷ rest) at false
@@ -70,17 +66,26 @@ at_item-same at false [] i = refl
 at_item-same at true (b ∷ rest) i = cc
 at_item-same at false (b ∷ rest) i = at_item at b rest i.1 i.2
 
-pub front_gap-is : (bytes : List ℕ) (skipping : Bool) (gap : Gap) → gap.len ≤ length bytes → Passed bytes skipping gap.len gap.in_line
-    → BeginsItem gap.in_line (drop gap.len bytes) → IsFrontGap bytes skipping gap
-front_gap-is bytes skipping gap w p i =
-    record { within = w; gone = λ at. p at ∙ at_item-same (at + gap.len) gap.in_line (drop gap.len bytes) i; stops = i }
-
-pub begins_item : (bytes : List ℕ) (n : ℕ) → n < length bytes → is_blank (get_or bytes n 0) ≡ false → (get_or bytes n 0 == 59) ≡ false
+begins_item : (bytes : List ℕ) (n : ℕ) → n < length bytes → is_blank (get_or bytes n 0) ≡ false → (get_or bytes n 0 == 59) ≡ false
     → BeginsItem false (drop n bytes)
 begins_item bytes n lt e f = subst (λ xs. BeginsItem false xs) (sym (drop-cons bytes n 0 lt)) (refl, e, f)
 
-pub begins_none : (bytes : List ℕ) (n : ℕ) (in_line : Bool) → length bytes ≤ n → BeginsItem in_line (drop n bytes)
+begins_none : (bytes : List ℕ) (n : ℕ) (in_line : Bool) → length bytes ≤ n → BeginsItem in_line (drop n bytes)
 begins_none bytes n in_line le = subst (λ xs. BeginsItem in_line xs) (sym (drop_all n bytes le)) tt
+
+module _ {bytes : List ℕ} {skipping : Bool} {n : ℕ} {in_line : Bool} (p : Passed bytes skipping n in_line) where
+  gap-is : n ≤ length bytes → BeginsItem in_line (drop n bytes) → IsFrontGap bytes skipping (record { len = n; in_line = in_line })
+  gap-is w i = record { within = w; gone = λ at. p.same at ∙ at_item-same (at + n) in_line (drop n bytes) i; stops = i }
+
+  -- an item stands behind the gap
+  pub front_gap-item : n < length bytes → in_line ≡ false → is_blank (get_or bytes n 0) ≡ false → (get_or bytes n 0 == 59) ≡ false
+      → IsFrontGap bytes skipping (record { len = n; in_line = in_line })
+  front_gap-item lt l e f = gap-is (omega arith) (subst (λ t. BeginsItem t (drop n bytes)) (sym l) (begins_item bytes n lt e f))
+
+  -- nothing stands behind it
+  pub front_gap-all : n ≡ length bytes → IsFrontGap bytes skipping (record { len = length bytes; in_line = in_line })
+  front_gap-all e =
+      subst (λ k. IsFrontGap bytes skipping (record { len = k; in_line = in_line })) e (gap-is (omega arith) (begins_none bytes n in_line (omega arith)))
 
 -- ---- what stands first doesn't change with the gap
 

@@ -1,21 +1,16 @@
 -- A text with a byte 10 behind it has one value as its first item.
-use Rattle.std.proofs.Common.{◌≡◌, ◌-◌, w8, option_map, ℕ, ◌+◌, ◌<◌, ◌^◌, List, [], ◌∷◌, ◌++◌, length, get_or, true, false, Option, Some, None, Fits, refl, sym, ap, ◌∙◌, subst, arith}
-use Rattle.std.specs.List.{All}
-use Rattle.std.proofs.lemmas.Bool.{lt-ltb}
-use Rattle.std.proofs.lemmas.List.Elements.{All-append, All-from_get_or}
+use Rattle.std.proofs.Common.{◌≡◌, ◌-◌, option_map, ℕ, ◌+◌, ◌<◌, ◌^◌, List, [], ◌∷◌, length, false, Option, Some, None, sym, ap, ◌∙◌, subst, arith}
+use Rattle.std.specs.Option.{IfSome}
 use Rattle.sexp_theory.specs.Values.{Value}
-use Rattle.sexp_theory.specs.Written.{IsTextOf, IsShallow}
+use Rattle.sexp_theory.specs.Written.{IsTextOf, IsOfBytes, IsShallow}
 use Rattle.sexp_theory.specs.Items as theory
 use Rattle.sexp_theory.specs.Items.{Unread, Taken, value_item, bad_item, fed, fresh, taken}
 use Rattle.sexp_theory.proofs.Texts.{text_taken}
-use Rattle.sexp_theory.proofs.AtomTexts.{below_all}
-use Rattle.sexp_theory.proofs.Depths.{item_shallow}
-use Rattle.sexp_core.specs.Reading.{Reading, Gives}
+use Rattle.sexp_core.specs.Reading.{Reading, Gives, item_meaning}
 use Rattle.sexp_core.specs.Sexp.{meaning}
 use Rattle.sexp_core.specs.Candidates.{IsCandidate}
-use Rattle.sexp_core.specs.declared.sexp.Sexp.{Sexp}
+use Rattle.sexp_core.specs.declared.item.Item.{Item}
 use Rattle.sexp_core.specs.declared.item.Item.TheVariants.{Value as ValueItem, Bad}
-use Rattle.sexp_theory.specs.declared.input.BadKind.{BadKind}
 
 -- a reader that was fed the bytes and a byte 10
 abbrev pub lined : List ℕ → Reading
@@ -31,37 +26,36 @@ unfolding item_in
 only_item bytes r v first e h t is =
     ap item_in (sym is ∙ ap (λ (q : Reading). taken q.limit false q.unread) e ∙ text_taken (2 ^ 64 - 1) bytes v t (omega (arith, h)))
 
-pub candidate_none : (bytes : List ℕ) (r new : Reading) → r ≡ lined bytes → length bytes < 2 ^ 64 → Gives r None new → (v : Value) → IsTextOf bytes v → ⊥
-unfolding item_in
-candidate_none bytes r new e h g v t = let same = only_item bytes r v None e h t g.0 in cc
+lined_is : (bytes : List ℕ) (r0 r1 r2 : Reading) → r0 ≡ record { unread = fresh; limit = 2 ^ 64 - 1 } → r1 ≡ record { unread = fed r0.unread bytes; limit = r0.limit }
+    → r2 ≡ record { unread = fed r1.unread (10 ∷ []); limit = r1.limit } → r2 ≡ lined bytes
+lined_is bytes r0 r1 r2 p q r =
+    let feed : List ℕ → Reading → Reading = λ xs u. record { unread = fed u.unread xs; limit = u.limit } in
+    r ∙ ap (feed (10 ∷ [])) (q ∙ ap (feed bytes) p)
 
-pub candidate_bad : (bytes : List ℕ) (r new : Reading) (place : ℕ) (kind : BadKind) → r ≡ lined bytes → length bytes < 2 ^ 64 → Gives r (Some (Bad place kind)) new → (v : Value) → IsTextOf bytes v → ⊥
+-- what a reader's first item says of the values whose text the bytes are
+abbrev pub Decides : List ℕ → Option Item → Type 0
+Decides bytes None = (v : Value) → IsTextOf bytes v → ⊥
+Decides bytes (Some (Bad place kind)) = (v : Value) → IsTextOf bytes v → ⊥
+Decides bytes (Some (ValueItem sexp from to)) = IsCandidate bytes (meaning sexp)
+
+decides : (bytes : List ℕ) (r new : Reading) (o : Option Item) → r ≡ lined bytes → length bytes < 2 ^ 64 → Gives r o new → IfSome o (λ i. IsOfBytes (item_meaning i))
+    → IfSome o (λ i. IsShallow (item_meaning i)) → Decides bytes o
 unfolding item_in
-candidate_bad bytes r new place kind e h g v t =
+decides bytes r new None e h g b s = λ v t. let same = only_item bytes r v None e h t g.0 in cc
+decides bytes r new (Some (Bad place kind)) e h g b s = λ v t.
     let same : Some (bad_item place kind) ≡ Some (value_item v 0 (0 + length bytes)) = only_item bytes r v (Some (record { item = bad_item place kind; rest = new.unread })) e h t g.0 in
     cc
-
-all_bytes : (bytes : List ℕ) → ((i : ℕ) → Fits w8 (get_or bytes i 0)) → All (λ b. b < 256) bytes
-all_bytes bytes f = All-from_get_or (λ b. b < 256) bytes 0 (λ i h. omega (arith, f i))
-
-lined_bytes : (bytes : List ℕ) → All (λ b. b < 256) bytes → All (λ b. b < 256) (bytes ++ 10 ∷ [])
-lined_bytes bytes h = All-append (λ b. b < 256) bytes (10 ∷ []) h (below_all (10 ∷ []) refl)
-
-pub candidate_value : (bytes : List ℕ) (r new : Reading) (sexp : Sexp) (from to : ℕ) → r ≡ lined bytes → length bytes < 2 ^ 64 → ((i : ℕ) → Fits w8 (get_or bytes i 0))
-    → Gives r (Some (ValueItem sexp from to)) new → IsCandidate bytes (meaning sexp)
-unfolding item_in
-candidate_value bytes r new sexp from to e h f g =
+decides bytes r new (Some (ValueItem sexp from to)) e h g b s =
     let first : Taken = record { item = value_item (meaning sexp) from to; rest = new.unread } in
-    let input : All (λ b. b < 256) r.unread.bytes = subst (λ (q : Reading). All (λ b. b < 256) q.unread.bytes) (sym e) (lined_bytes bytes (all_bytes bytes f)) in
-    let shallow : IsShallow first.item = item_shallow r.limit false r.unread first input g.0 in
     record {
-      of_bytes = shallow.0;
-      shallow = shallow.1;
+      of_bytes = b;
+      shallow = s;
       only = λ v t. let same : Some (value_item (meaning sexp) from to) ≡ Some (value_item v 0 (0 + length bytes)) = only_item bytes r v (Some first) e h t g.0 in cc;
     }
 
-pub is_lined : (bytes : List ℕ) (r0 r1 r2 : Reading) → r0 ≡ record { unread = fresh; limit = 2 ^ 64 - 1 } → r1 ≡ record { unread = fed r0.unread bytes; limit = r0.limit }
-    → r2 ≡ record { unread = fed r1.unread (10 ∷ []); limit = r1.limit } → r2 ≡ lined bytes
-is_lined bytes r0 r1 r2 p q r =
-    let feed : List ℕ → Reading → Reading = λ xs u. record { unread = fed u.unread xs; limit = u.limit } in
-    r ∙ ap (feed (10 ∷ [])) (q ∙ ap (feed bytes) p)
+-- a reader that was fed the bytes and a byte 10 gives an item first, or none
+pub decided : (bytes : List ℕ) {r0 r1 r2 : Reading} (new : Reading) (o p : Option Item) → r0 ≡ record { unread = fresh; limit = 2 ^ 64 - 1 } → r1 ≡ record { unread = fed r0.unread bytes; limit = r0.limit }
+    → r2 ≡ record { unread = fed r1.unread (10 ∷ []); limit = r1.limit } → length bytes < 2 ^ 64 → Gives r2 o new → IfSome o (λ i. IsOfBytes (item_meaning i))
+    → IfSome o (λ i. IsShallow (item_meaning i)) → o ≡ p → Decides bytes p
+decided bytes {r0 = r0} {r1 = r1} {r2 = r2} new o p e f g h given b s is =
+    subst (Decides bytes) is (decides bytes r2 new o (lined_is bytes r0 r1 r2 e f g) h given b s)

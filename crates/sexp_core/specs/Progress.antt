@@ -1,5 +1,6 @@
 -- How far a Reader has looked: words of its invariant and of its private calls.
 use Rattle.std.specs.Prelude.{◌≡◌, ℕ, ◌+◌, ◌-◌, ◌<◌, ◌≤◌, ◌==◌, ◌^◌, List, [], ◌∷◌, ◌++◌, length, drop, Bool, false}
+use Rattle.std.specs.List.{All}
 use Rattle.sexp_theory.specs.Signs.{is_blank}
 use Rattle.sexp_theory.specs.Places.{value, bad}
 use Rattle.sexp_theory.specs.Machine.{State, start, found_from}
@@ -25,6 +26,12 @@ pub record IsFrontGap (bytes : List ℕ) (skipping : Bool) (gap : Gap) : Type 0 
   pub within : gap.len ≤ length bytes
   pub gone : (at : ℕ) → without_gap (unread_of bytes at skipping) ≡ unread_of (drop gap.len bytes) (at + gap.len) gap.in_line
   pub stops : BeginsItem gap.in_line (drop gap.len bytes)
+
+-- what stands in front of the first item of a buffer's unread bytes, and the bytes from that item on; all of them are bytes
+pub record Finds (buffer : List ℕ) (front : Front) (gap : Gap) (item : List ℕ) : Type 0 where
+  pub is_gap : IsFrontGap (drop front.start buffer) front.skipping gap
+  pub is_item : drop gap.len (drop front.start buffer) ≡ item
+  pub of_bytes : All (λ b. b < 256) (drop front.start buffer)
 
 -- The first `n` bytes of an item that begins at `from` lead to the state, and the bytes are read on from there: the item goes on behind
 -- them, it ends, or a bad place is shown.

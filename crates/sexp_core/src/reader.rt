@@ -1,11 +1,12 @@
 //! The items of an input that comes in pieces.
-ghost use Rattle.std.specs.Prelude.{◌≡◌, ◌+◌, ◌≤◌, ◌^◌, length, drop, false, None, IfOk, OnErr};
+ghost use Rattle.std.specs.Prelude.{◌≡◌, ◌+◌, ◌≤◌, ◌^◌, length, drop, false, None, IfOk, IfSome, OnErr};
 ghost use Rattle.sexp_theory.specs.Items.{fed, fresh, most_bytes, taken};
-ghost use Rattle.sexp_core.specs.Reading.{Finishes, Gives};
+ghost use Rattle.sexp_theory.specs.Written.{IsOfBytes, IsShallow};
+ghost use Rattle.sexp_core.specs.Reading.{Finishes, Gives, item_meaning};
 
 use crate::item::{Finish, Item};
 use crate::machine::Machine;
-use crate::scan::{Front, Scanned, behind_line, bytes_from, front_gap, scan};
+use crate::scan::{Front, Scanned, behind_line, first_item, scan};
 use base_core::NoMemory;
 use sexp_theory::InputEnd;
 use std::alloc::Global;
@@ -84,35 +85,31 @@ impl Reader {
     }
 
     /// The next item, or None exactly where what was fed holds no further whole item; then the blanks, comments and
-    /// passed over lines at the front are gone. After `NoMemory` the reader is as before.
+    /// passed over lines at the front are gone. A value that is given may be written (`of_bytes`, `shallow`). After
+    /// `NoMemory` the reader is as before.
     pub fn next(&mut self) -> Result<Option<Item>, NoMemory>
         ensures given { IfOk result (λ item. Gives self.old item self.new) }
+        ensures of_bytes { IfOk result (λ item. IfSome item (λ i. IsOfBytes (item_meaning i))) }
+        ensures shallow { IfOk result (λ item. IfSome item (λ i. IsShallow (item_meaning i))) }
         ensures no_more_fed { self.new.unread.at + length self.new.unread.bytes ≤ self.old.unread.at + length self.old.unread.bytes }
         ensures no_memory { OnErr result (self.new ≡ self.old) }
     {
-        let Front {
-            start,
-            at,
-            skipping,
-            seen,
-        } = self.front;
-        let unread = bytes_from(&self.bytes, start);
-        let gap = front_gap(unread, skipping);
-        let item = bytes_from(unread, gap.len);
-        let from = at + gap.len as u64;
+        let front = self.front;
+        let (gap, item) = first_item(&self.bytes, front);
+        let from = front.at + gap.len as u64;
         if item.is_empty() {
-            self.front = unseen(start + gap.len, from, gap.in_line);
+            self.front = unseen(front.start + gap.len, from, gap.in_line);
             return Ok(None);
         }
-        match scan(&mut self.machine, item, seen, from, self.limit) {
+        match scan(&mut self.machine, item, front.seen, from, self.limit) {
             Err(error) => {
                 self.machine.clear();
-                self.front = unseen(start, at, skipping);
+                self.front = unseen(front.start, front.at, front.skipping);
                 Err(error)
             }
             Ok(Scanned::More) => {
                 self.front = Front {
-                    start: start + gap.len,
+                    start: front.start + gap.len,
                     at: from,
                     skipping: false,
                     seen: item.len(),
@@ -121,41 +118,37 @@ impl Reader {
             }
             Ok(Scanned::Whole(value, to)) => {
                 self.machine.clear();
-                self.front = unseen(start + (to - at) as usize, to, false);
+                self.front = unseen(front.start + (to - front.at) as usize, to, false);
                 Ok(Some(Item::Value(value, from, to)))
             }
             Ok(Scanned::Bad(kind, place)) => {
                 self.machine.clear();
-                let before = place.saturating_sub(at) as usize;
-                self.front = behind_line(&self.bytes, start + before, place);
+                let before = place.saturating_sub(front.at) as usize;
+                self.front = behind_line(&self.bytes, front.start + before, place);
                 Ok(Some(Item::Bad(place, kind)))
             }
         }
     }
 
-    /// The last item of an input that ends here, and how it ends, asked once `next` has given None.
+    /// The last item of an input that ends here, and how it ends, asked once `next` has given None. The reader is used
+    /// up, after `NoMemory` too.
     pub fn finish(mut self) -> Result<Finish, NoMemory>
         requires { taken self.limit false self.unread ≡ None }
-        ensures { IfOk result (λ finish. Finishes self finish) }
+        ensures given { IfOk result (λ finish. Finishes self finish) }
+        ensures of_bytes { IfOk result (λ finish. IfSome finish.last (λ i. IsOfBytes (item_meaning i))) }
+        ensures shallow { IfOk result (λ finish. IfSome finish.last (λ i. IsShallow (item_meaning i))) }
     {
-        let Front {
-            start,
-            at,
-            skipping,
-            seen,
-        } = self.front;
-        let unread = bytes_from(&self.bytes, start);
-        let gap = front_gap(unread, skipping);
-        let item = bytes_from(unread, gap.len);
-        let from = at + gap.len as u64;
-        let end = at + unread.len() as u64;
+        let end = self.fed();
+        let front = self.front;
+        let (gap, item) = first_item(&self.bytes, front);
+        let from = front.at + gap.len as u64;
         if item.is_empty() {
             return Ok(Finish {
                 last: None,
                 ended: InputEnd::Clean,
             });
         }
-        match scan(&mut self.machine, item, seen, from, self.limit)? {
+        match scan(&mut self.machine, item, front.seen, from, self.limit)? {
             Scanned::More => {}
             _ => unreachable!(),
         }

@@ -4,7 +4,7 @@ ghost use Rattle.std.specs.List.{position};
 ghost use Rattle.sexp_theory.specs.Signs.{is_blank};
 ghost use Rattle.sexp_theory.specs.Items.{behind_rest_of_line};
 ghost use Rattle.sexp_core.specs.State.{state_of};
-ghost use Rattle.sexp_core.specs.Progress.{IsFrontGap, Scans, unread_from};
+ghost use Rattle.sexp_core.specs.Progress.{Finds, IsFrontGap, Scans, unread_from};
 
 use crate::machine::{Machine, Step};
 use crate::sexp::Sexp;
@@ -34,6 +34,16 @@ pub(crate) enum Scanned {
     More,
     Whole(Sexp, u64),
     Bad(BadKind, u64),
+}
+
+/// What stands in front of the first item of the unread bytes, and the bytes from that item on.
+pub(crate) fn first_item(bytes: &[u8], front: Front) -> (Gap, &[u8])
+    requires { front.start ≤ length bytes.now }
+    ensures { Finds bytes.now front result.0 result.1.now }
+{
+    let unread = bytes_from(bytes, front.start);
+    let gap = front_gap(unread, front.skipping);
+    (gap, bytes_from(unread, gap.len))
 }
 
 /// The blanks, comments and passed over lines at the front.

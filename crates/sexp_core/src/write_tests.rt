@@ -1,6 +1,7 @@
 //! What is written for a table of values, typed from the format.
 ghost use Rattle.std.specs.Prelude.{◌≤◌, map, IsTrue};
 ghost use Rattle.sexp_theory.specs.Values.{values, nesting, nesting_of_all};
+ghost use Rattle.sexp_theory.specs.Places.{most_lists};
 ghost use Rattle.sexp_core.specs.Sexp.{meaning};
 
 use crate::*;
@@ -61,8 +62,20 @@ fn check(
     most: usize,
     want: &[u8],
 ) -> Result<(), Fail> {
-    let alloc = rt.alloc();
     assert!(rt; nests(sexp, 256));
+    compare(rt, sexp, most, want)
+}
+
+fn compare(
+    rt: &(impl Abort + AllocGlobal),
+    sexp: &Sexp,
+    most: usize,
+    want: &[u8],
+) -> Result<(), Fail>
+    requires { nesting (meaning sexp.now) ≤ most_lists }
+{
+    values_are_of_bytes(sexp);
+    let alloc = rt.alloc();
     let mut out = Out::new(MemSink::new(Vec::new(alloc), most, Vec::new(alloc)));
     write(sexp, &mut out);
     assert!(rt; !out.failed());
@@ -189,6 +202,7 @@ fn other_spellings_are_refused(rt: HostRuntime) -> Result<(), Fail> {
         "(a\"\")",
         "()()",
         "(a",
+        "(a b",
         "\"a",
         ")",
         "a)",
@@ -211,6 +225,30 @@ fn other_spellings_are_refused(rt: HostRuntime) -> Result<(), Fail> {
             read_text(rt.alloc(), text.as_bytes())?.is_none(),
             "taken: {text}"
         );
+    }
+    Ok(())
+}
+
+/// Writes what a reader gives first of the text: that it may be written is known from the reader's contract.
+fn rewrites(rt: &(impl Abort + AllocGlobal), text: &[u8], want: &[u8]) -> Result<(), Fail> {
+    let mut reader = Reader::new(rt.alloc())?;
+    reader.feed(text)?;
+    match reader.next()? {
+        Some(Item::Value(sexp, _, _)) => compare(rt, &sexp, 1000, want),
+        _ => panic!(rt; "no value: {text:?}"),
+    }
+}
+
+#[test]
+fn what_was_read_may_be_written(rt: HostRuntime) -> Result<(), Fail> {
+    for (text, want) in [
+        ("a\n", "a"),
+        ("\"a\"", "a"),
+        ("( a ;x\n b )", "(a b)"),
+        ("((a) (\"b c\"d))", "((a)(\"b c\" d))"),
+        ("\"\\x41\\065\"", "AA"),
+    ] {
+        rewrites(&rt, text.as_bytes(), want.as_bytes())?;
     }
     Ok(())
 }

@@ -13,7 +13,6 @@ pub mod Kept
 pub mod Computed
 mod Rows
 pub mod Taking
-pub mod Same
 pub mod Fed
 pub mod Behind
 pub mod Within

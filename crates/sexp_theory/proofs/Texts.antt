@@ -1,6 +1,7 @@
 -- The bytes of a text, and that no two values have one text.
 use Rattle.std.proofs.Common.{◌≡◌, ◌≢◌, ℕ, ◌+◌, ◌-◌, ◌<◌, ◌≤◌, ◌&&◌, ◌||◌, ◌==◌, List, [], ◌∷◌, ◌++◌, length, drop, nat_le, not, Bool, true, false, Some, append_assoc, append-nil, refl, sym, ap, ◌∙◌, subst, arith}
 use Rattle.std.specs.List.{list_all, All, AllPass}
+use Rattle.std.proofs.Math.Seq.{drop-append_seam}
 use Rattle.std.proofs.lemmas.List.{drop_all}
 use Rattle.std.proofs.lemmas.List.Sums.{AllPass-from_list_all}
 use Rattle.std.proofs.lemmas.List.Folds.{list_all-append}
@@ -8,10 +9,10 @@ use Rattle.std.proofs.lemmas.Bool.{ltb-true, le-leb, leb-true, eq-eqb, and_parts
 use Rattle.sexp_theory.specs.Values.{Value, atom, list, Values, nil, cons, nesting, HasBytes, HaveBytes}
 use Rattle.sexp_theory.specs.Writing as writing
 use Rattle.sexp_theory.specs.Writing.{is_bare, is_bare_atom, quoted_byte, quoted_bytes, atom_text, text, texts, texts_behind, is_of_text}
-use Rattle.sexp_theory.specs.Written.{is_bare_value, sole_item, IsTextOf}
+use Rattle.sexp_theory.specs.Written.{is_bare_value, sole_item, first_item, IsTextOf}
 use Rattle.sexp_theory.specs.Places.{last_run, value}
 use Rattle.sexp_theory.specs.Machine.{found}
-use Rattle.sexp_theory.specs.Items.{value_item, Taken, fed, fresh, from_offset, whole_text, taken, taken_of}
+use Rattle.sexp_theory.specs.Items.{value_item, Taken, Unread, fed, fresh, from_offset, whole_text, taken, taken_of}
 use Rattle.sexp_theory.proofs.AtomTexts.{is_byte, all_bytes}
 use Rattle.sexp_theory.proofs.ReadAgain.{Parted, parted_behind, value_found, whole_found, bare_last, bare_text, plain_parts, bare_parts}
 
@@ -224,3 +225,15 @@ pub text_taken : (limit : ℕ) (bytes : List ℕ) (v : Value) → IsTextOf bytes
 text_taken limit bytes v t fits =
     let P : List ℕ → Type 0 = λ xs. length xs ≤ limit → taken limit false (fed (fed fresh xs) (10 ∷ [])) ≡ Some (up_to v (0 + length xs) (xs ++ 10 ∷ [])) in
     subst P t.written (λ f. ap (taken_of false (fed (fed fresh (text v)) (10 ∷ []))) (value_found limit 0 v (10 ∷ []) t.of_bytes t.shallow f refl)) fits
+
+-- the same with any bytes behind the byte 10, whether they are the whole input or not
+pub line_taken : (limit : ℕ) (ended : Bool) (v : Value) (rest : List ℕ) → HasBytes v → nesting v ≤ 256 → length (text v) ≤ limit
+    → taken limit ended (fed (whole_text (text v)) (10 ∷ rest)) ≡ Some (first_item v (10 ∷ rest))
+line_taken limit ended v rest h deep fits =
+    let n : ℕ = length (text v) in
+    let u : Unread = fed (whole_text (text v)) (10 ∷ rest) in
+    let whole : 0 + n ≡ n = omega arith in
+    let left : drop (n - 0) (text v ++ 10 ∷ rest) ≡ 10 ∷ rest = ap (λ k. drop k (text v ++ 10 ∷ rest)) (omega arith) ∙ drop-append_seam (text v) (10 ∷ rest) in
+    ap (taken_of ended u) (value_found limit 0 v (10 ∷ rest) h deep fits refl)
+    ∙ ap (λ k. Some (record { item = value_item v 0 k; rest = from_offset k u })) whole
+    ∙ ap (λ xs. Some (record { item = value_item v 0 n; rest = record { bytes = xs; at = n; skipping = false } })) left

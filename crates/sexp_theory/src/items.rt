@@ -1,7 +1,7 @@
 //! The laws of the items of a text.
-ghost use Rattle.std.specs.Prelude.{◌≡◌, ◌<◌, ◌++◌, ℕ, List, Bool, true, false, Some, None};
-ghost use Rattle.sexp_theory.specs.Items.{Item, Unread, taken, items_of, end_of, fed};
-ghost use Rattle.sexp_theory.specs.Reading.{IsItem, HasNoItem, AreItems, EndsAs, IsRead};
+ghost use Rattle.std.specs.Prelude.{◌≡◌, ◌<◌, ℕ, List, Bool, true, Some, None};
+ghost use Rattle.sexp_theory.specs.Items.{Item, Unread, taken, items_of, end_of};
+ghost use Rattle.sexp_theory.specs.Reading.{IsItem, HasNoItem, AreItems, EndsAs};
 ghost use Rattle.sexp_theory.specs.declared.input.InputEnd.{InputEnd};
 
 /// The items of a text and how the input ends, by the words of the format, are what is computed, and nothing else.
@@ -14,13 +14,4 @@ pub fn items_are_computed()
     ensures items_one { (limit : ℕ) (ended : Bool) (u : Unread) (items others : List Item) → AreItems limit ended u items → AreItems limit ended u others → items ≡ others }
     ensures end_computed { (limit : ℕ) (u : Unread) → 0 < limit → EndsAs limit u (items_of limit true u) (end_of limit u) }
     ensures end_is { (limit : ℕ) (u : Unread) (items : List Item) (end : InputEnd) → EndsAs limit u items end → end_of limit u ≡ end }
-{}
-
-/// Bytes that come in pieces are read as one text. What is fed never changes the items before it; behind items that
-/// were read, what is left and a piece more have the items and the end that the whole has behind them.
-pub fn pieces_are_read_as_one()
-    ensures fed { (limit : ℕ) (ended : Bool) (u : Unread) (piece : List ℕ) → 0 < limit → (later : List Item) × (items_of limit ended (fed u piece) ≡ items_of limit false u ++ later) }
-    ensures pieces { (limit : ℕ) (ended : Bool) (u rest : Unread) (items : List Item) (piece : List ℕ) → 0 < limit → IsRead limit u items rest
-        → items_of limit ended (fed u piece) ≡ items ++ items_of limit ended (fed rest piece) }
-    ensures pieces_end { (limit : ℕ) (u rest : Unread) (items : List Item) (piece : List ℕ) → 0 < limit → IsRead limit u items rest → end_of limit (fed u piece) ≡ end_of limit (fed rest piece) }
 {}

@@ -17,8 +17,8 @@ mod reading;
 mod round_trip;
 
 pub use input::{BadKind, InputEnd};
-pub use items::{items_are_computed, pieces_are_read_as_one};
-pub use pieces::pieces_have_the_items_of_the_whole;
+pub use items::items_are_computed;
+pub use pieces::pieces_are_read_as_one;
 pub use reading::reading_is_computed;
 pub use round_trip::{
     read_values_may_be_written, texts_are_lines_of_one_value, texts_spell_their_values,

@@ -1,5 +1,6 @@
 use Rattle.std.proofs.Common.{◌≡◌, drop}
-use Rattle.serapi_cmd.specs.Fields.{meanings, read_each}
+use Rattle.serapi_cmd.specs.Fields.{read_each}
+use Rattle.serapi_cmd.specs.Meanings.{meanings}
 use Rattle.serapi_cmd.specs.Options.{add_option, no_add_option}
 use Rattle.serapi_cmd.proofs.options.read_add_list.Given as goal
 

@@ -1,5 +1,6 @@
 use Rattle.std.proofs.Common.{◌≡◌, drop, []}
-use Rattle.serapi_cmd.specs.Fields.{meanings, read_each}
+use Rattle.serapi_cmd.specs.Fields.{read_each}
+use Rattle.serapi_cmd.specs.Meanings.{meanings}
 use Rattle.serapi_cmd.specs.Commands.{add_id}
 use Rattle.serapi_cmd.proofs.reading.read_numbers.Given as goal
 

@@ -13,4 +13,4 @@ returns-in-Some-clause-finishes g c =
     let last : c.in-Ok.field-0.last ≡ Some c.in-Some.item = cc in
     subst (λ z. Finishes z c.args.reader.unread c.args.live.now.entries c.answer_item.new.live.entries c.answer_item.new.live.output) (sym c.stop_after.ensures)
     (finished-some c.answer_item.result c.args.reader.unread c.args.reader.limit c.args.live.now.entries c.answer_item.new.live.entries (item_meaning c.in-Some.item) _ c.answer_item.new.live.output
-    c.requires.limit c.requires.none (sym (ap (option_map item_meaning) last) ∙ c.in-Ok.ensures.0) c.in-Ok.ensures.1 c.answer_item.ensures.takes)
+    c.requires.limit c.requires.none (sym (ap (option_map item_meaning) last) ∙ c.in-Ok.ensures.given.0) c.in-Ok.ensures.given.1 c.answer_item.ensures.takes)

@@ -14,3 +14,6 @@ returns-clause-at_the_end c = texts.at_the_end
 
 pub returns-clause-alone : goal.returns-clause-alone
 returns-clause-alone c = texts.sole_taken
+
+pub returns-clause-line : goal.returns-clause-line
+returns-clause-line c = texts.line_taken

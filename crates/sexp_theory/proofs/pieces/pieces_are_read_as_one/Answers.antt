@@ -1,5 +1,16 @@
+use Rattle.std.proofs.Common.{length}
+use Rattle.sexp_theory.proofs.Fed as pieced
 use Rattle.sexp_theory.proofs.Streams as streams
-use Rattle.sexp_theory.proofs.pieces.pieces_have_the_items_of_the_whole.Goals as goal
+use Rattle.sexp_theory.proofs.pieces.pieces_are_read_as_one.Goals as goal
+
+pub returns-clause-fed : goal.returns-clause-fed
+returns-clause-fed c = λ limit ended u piece. pieced.fed_keeps limit (length u.bytes) ended u piece
+
+pub returns-clause-pieces : goal.returns-clause-pieces
+returns-clause-pieces c = λ limit ended u rest items piece h. pieced.pieces items limit ended u rest piece h
+
+pub returns-clause-pieces_end : goal.returns-clause-pieces_end
+returns-clause-pieces_end c = λ limit u rest items piece h. pieced.pieces_end items limit u rest piece h
 
 pub returns-clause-taken : goal.returns-clause-taken
 returns-clause-taken c = streams.items-taken
