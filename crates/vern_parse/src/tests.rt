@@ -266,14 +266,14 @@ fn tell_span(text: &mut String, span: Span) -> Result<(), NoMemory> {
     Ok(())
 }
 
-fn tell_name(text: &mut String, name: &RawName) -> Result<(), NoMemory> {
+pub fn tell_name(text: &mut String, name: &RawName) -> Result<(), NoMemory> {
     for byte in name.text.as_slice() {
         text.push(char::from(*byte))?;
     }
     tell_span(text, name.span)
 }
 
-fn tell_group(text: &mut String, group: &RawGroup) -> Result<(), NoMemory> {
+pub fn tell_group(text: &mut String, group: &RawGroup) -> Result<(), NoMemory> {
     for name in &group.names {
         text.push_str(" ")?;
         tell_name(text, name)?;
@@ -310,7 +310,7 @@ fn tell_binder(text: &mut String, all: bool, groups: &RawGroups) -> Result<(), N
     Ok(())
 }
 
-fn tell(text: &mut String, expression: &RawExpr) -> Result<(), NoMemory> {
+pub fn tell(text: &mut String, expression: &RawExpr) -> Result<(), NoMemory> {
     match expression {
         RawExpr::True(span) => tell_piece(text, "True", *span),
         RawExpr::False(span) => tell_piece(text, "False", *span),
@@ -346,7 +346,7 @@ fn tell(text: &mut String, expression: &RawExpr) -> Result<(), NoMemory> {
     }
 }
 
-fn tell_shape(text: &mut String, shape: &Shape) -> Result<(), NoMemory> {
+pub fn tell_shape(text: &mut String, shape: &Shape) -> Result<(), NoMemory> {
     match shape {
         Shape::Set(span) => tell_piece(text, "Set", *span),
         Shape::Prop(span) => tell_piece(text, "Prop", *span),
@@ -443,7 +443,7 @@ fn fault_of(alloc: Global, sentence: &str) -> Result<Option<u64>, Fail> {
     }
 }
 
-fn repeat(text: &mut String, piece: &str, count: usize) -> Result<(), NoMemory> {
+pub fn repeat(text: &mut String, piece: &str, count: usize) -> Result<(), NoMemory> {
     for _ in 0..count {
         text.push_str(piece)?;
     }
