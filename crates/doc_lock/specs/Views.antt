@@ -1,5 +1,5 @@
 -- What each kind of step does to the view of the seat that takes it, and what it tells that seat.
--- Two kinds aren't here, since no view changes by them: the state is taken out of the slot, and the state is put into it.
+-- Beside these the state is taken out of the slot and put into it: that is plain memory of the seat that carries the slot, no step, and changes no view.
 use Rattle.std.specs.Prelude.{◌≡◌, ◌≢◌, ℕ, ◌+◌, ◌≤◌, true, false, List, [], ◌∷◌, ◌++◌, length, Option, Some, None}
 use Rattle.atomic_table.specs.Table.{Me, Step}
 use Rattle.doc_lock.specs.declared.view.Folded.{Folded}

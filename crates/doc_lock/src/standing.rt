@@ -18,5 +18,5 @@ pub trait Standing {
 
     /// How long the list is.
     fn entries(&self) -> u64
-        ensures { result ≡ length (list self.now) };
+        ensures count { result ≡ length (list self.now) };
 }

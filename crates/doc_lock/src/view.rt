@@ -30,11 +30,11 @@ pub struct View<E, O> {
     pub joined: LinkedList<Folded<E>>,
     /// How often it tried the flag.
     pub tries: u64,
-    /// The word that its last try read: 0, or one more than the number of the seat that then had the lock.
+    /// The word that its last try read, and 0 before the first. A try gets the lock exactly where it reads 0.
     pub found: u64,
-    /// How often it looked at the length.
+    /// How often it looked at the length, in `rest`.
     pub looks: u64,
-    /// The length that its last look read.
+    /// The length that its last look read, and 0 before the first.
     pub told: u64,
     /// Of the seat number 0, how many numbers were made: its own and one for each seat that it split off. Of any
     /// other seat 0.

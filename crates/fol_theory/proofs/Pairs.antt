@@ -63,6 +63,16 @@ substitute_substitute j k w v a h = by_points _ _ _ _ (λ i. substitute_substitu
 pub substitute_substitute_term : (j k : ℕ) (w v t : Term) → k ≤ j → substitute_term j w (substitute_term k v t) ≡ substitute_term k (substitute_term j w v) (substitute_term (j + 1) (shift_term k 1 w) t)
 substitute_substitute_term j k w v t h = term_by_points _ _ _ _ (λ i. substitute_substitute_at j k w v i h) t
 
+substitute_substitute_below_at : (j k : ℕ) (w v : Term) (i : ℕ) → j ≤ k → replace_term (put j w) (put (k + 1) v i) ≡ replace_term (put k (replace_term (put j w) v)) (put j (replace_term (raise k 1) w) i)
+substitute_substitute_below_at j k w v i h = grind (arith, nat_tests, substitute_shift_term k (replace_term (put j w) v) w)
+
+-- a substitution for a variable below the one that was replaced
+pub substitute_substitute_below : (j k : ℕ) (w v : Term) (a : Formula) → j ≤ k → substitute j w (substitute (k + 1) v a) ≡ substitute k (substitute_term j w v) (substitute j (shift_term k 1 w) a)
+substitute_substitute_below j k w v a h = by_points _ _ _ _ (λ i. substitute_substitute_below_at j k w v i h) a
+
+pub substitute_substitute_below_term : (j k : ℕ) (w v t : Term) → j ≤ k → substitute_term j w (substitute_term (k + 1) v t) ≡ substitute_term k (substitute_term j w v) (substitute_term j (shift_term k 1 w) t)
+substitute_substitute_below_term j k w v t h = term_by_points _ _ _ _ (λ i. substitute_substitute_below_at j k w v i h) t
+
 -- ---- a shift loses nothing
 
 -- what takes a shift back

@@ -32,6 +32,8 @@ pub fn shifts_and_substitutions_pass()
     ensures shift_substitute_above_term { (from by k : ℕ) (v t : Term) → k ≤ from → shift_term from by (substitute_term k v t) ≡ substitute_term k (shift_term from by v) (shift_term (from + 1) by t) }
     ensures substitute_substitute { (j k : ℕ) (w v : Term) (a : Formula) → k ≤ j → substitute j w (substitute k v a) ≡ substitute k (substitute_term j w v) (substitute (j + 1) (shift_term k 1 w) a) }
     ensures substitute_substitute_term { (j k : ℕ) (w v t : Term) → k ≤ j → substitute_term j w (substitute_term k v t) ≡ substitute_term k (substitute_term j w v) (substitute_term (j + 1) (shift_term k 1 w) t) }
+    ensures substitute_substitute_below { (j k : ℕ) (w v : Term) (a : Formula) → j ≤ k → substitute j w (substitute (k + 1) v a) ≡ substitute k (substitute_term j w v) (substitute j (shift_term k 1 w) a) }
+    ensures substitute_substitute_below_term { (j k : ℕ) (w v t : Term) → j ≤ k → substitute_term j w (substitute_term (k + 1) v t) ≡ substitute_term k (substitute_term j w v) (substitute_term j (shift_term k 1 w) t) }
 {}
 
 /// The greatest index of what is shifted and substituted. So no index passes a limit, by bounds on the height and

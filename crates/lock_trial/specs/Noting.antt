@@ -1,13 +1,26 @@
 -- Notes, and seats between two calls.
-use Rattle.std.specs.Prelude.{◌≡◌, ℕ, ◌+◌, ◌<◌, false, List, length, slice_index_or}
+use Rattle.std.specs.Prelude.{◌≡◌, ℕ, ◌+◌, ◌<◌, false, List, [], length, map, slice_index_or, Result, MatchResult}
+use Rattle.std.specs.List.{range_with_len}
+use Rattle.doc_lock.specs.Lists.{only}
 use Rattle.doc_lock.specs.Told.{IsOf, knows}
 use Rattle.doc_lock.specs.declared.view.View.{View}
 use Rattle.doc_lock.specs.declared.lock.SeatOf.{SeatOf}
 use Rattle.doc_lock.specs.declared.lock.DocLock.{DocLock}
+use Rattle.base_core.specs.declared.no_memory.NoMemory.{NoMemory}
 use Rattle.lock_trial.specs.declared.notes.Note.{Note}
+use Rattle.lock_trial.specs.declared.notes.Notes.{Notes}
+use Rattle.lock_trial.specs.declared.threads.Writer.{Writer}
 
 abbrev pub note : ℕ → ℕ → Note
 note by what = record { by = by; what = what }
+
+-- so many notes by one seat, which say 0, 1 and so on, in this order
+abbrev pub notes_by : ℕ → ℕ → List Note
+notes_by by n = map (note by) (range_with_len 0 n)
+
+-- of a list of notes those by one seat, in their order
+abbrev pub of_seat : ℕ → List Note → List Note
+of_seat by notes = only (λ (e : Note). e.by) by notes
 
 module _ {E O : Type 0} where
   -- what calls between two moments leave as it was
@@ -19,6 +32,26 @@ module _ {S E O : Type 0} where
   abbrev pub IsIdle : DocLock S E O → ℕ → SeatOf S E O → Type 0
   IsIdle l n s = IsOf l s × ((knows s).number ≡ n) × ((knows s).holds ≡ false)
 
-  -- the seats have the numbers from 1 on
-  abbrev pub AreIdle : DocLock S E O → List (SeatOf S E O) → Type 0
-  AreIdle l ss = (i : ℕ) (d : SeatOf S E O) → i < length ss → IsIdle l (i + 1) (slice_index_or ss i d)
+module _ {O : Type 0} where
+  -- the seat has made no entry, and none was joined into it
+  abbrev pub IsFresh : View Note O → Type 0
+  IsFresh v = (v.mine ≡ []) × (v.joined ≡ [])
+
+  -- the entries of the seat are all of so many notes, or where memory was wanting the first of them
+  abbrev pub HasWritten : ℕ → Result (Unit {0}) NoMemory → View Note O → Type 0
+  HasWritten most wrote v = MatchResult wrote (λ _. v.mine ≡ notes_by v.number most) (λ _. (n : ℕ) × (n < most) × (v.mine ≡ notes_by v.number n))
+
+abbrev pub Lock : Type 0
+Lock = DocLock Notes Note ℕ
+
+-- the writer of this number hasn't begun
+abbrev pub IsReady : Lock → ℕ → Writer → Type 0
+IsReady l n w = IsIdle l n w.seat × IsFresh (knows w.seat)
+
+-- the writer of this number has ended
+abbrev pub IsDone : ℕ → Lock → ℕ → Writer → Type 0
+IsDone most l n w = IsIdle l n w.seat × HasWritten most w.wrote (knows w.seat) × ((knows w.seat).joined ≡ [])
+
+-- P of each writer, by the number of its seat: they are 1, 2 and so on
+abbrev pub EachWriter : (ℕ → Writer → Type 0) → List Writer → Type 0
+EachWriter P ws = (i : ℕ) (d : Writer) → i < length ws → P (i + 1) (slice_index_or ws i d)

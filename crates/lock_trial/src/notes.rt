@@ -40,7 +40,8 @@ impl Standing for Notes {
 impl Notes {
     /// No notes yet.
     pub fn new(alloc: Global, day: u32) -> Notes
-        ensures { (result.day ≡ day) × (result.notes.items ≡ []) }
+        ensures day { result.day ≡ day }
+        ensures notes { result.notes.items ≡ [] }
     {
         Notes {
             day,

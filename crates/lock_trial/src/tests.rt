@@ -11,19 +11,19 @@ use std::test::Fail;
 use std::thread::{Threads, join_mut};
 
 #[test]
-fn each_note_of_five_threads_is_there_once(rt: HostRuntime) -> Result<(), Fail> {
-    let notes = write_beside(&rt, rt.alloc(), 12, 4, 200)?;
+fn each_note_of_five_threads_and_seat_0_is_there_once(rt: HostRuntime) -> Result<(), Fail> {
+    let notes = write_beside(&rt, rt.alloc(), 12, 5, 200)?;
     assert_eq!(rt; notes.day, 12);
-    assert_eq!(rt; notes.notes.len(), 1000);
+    assert_eq!(rt; notes.notes.len(), 1200);
     // the next note of each seat
-    let mut next = [0u64; 5];
+    let mut next = [0u64; 6];
     for note in &notes.notes {
-        assert!(rt; note.by < 5);
+        assert!(rt; note.by < 6);
         let seat = note.by as usize;
         assert_eq!(rt; note.what, next[seat]);
         next[seat] = next[seat].wrapping_add(1);
     }
-    assert_eq!(rt; next, [200; 5]);
+    assert_eq!(rt; next, [200; 6]);
     Ok(())
 }
 

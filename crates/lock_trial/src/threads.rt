@@ -1,9 +1,9 @@
 //! Writers in threads, beside the first seat.
-ghost use Rattle.std.specs.Prelude.{◌≡◌, ℕ, ◌+◌, ◌<◌, ◌≤◌, [], false, vec_len, vec_capacity, IfOk};
+ghost use Rattle.std.specs.Prelude.{◌≡◌, ℕ, ◌+◌, ◌<◌, ◌≤◌, [], ◌++◌, false, vec_len, vec_capacity, IfOk, MatchResult};
 ghost use Rattle.std.specs.Thread.{IsSync};
 ghost use Rattle.doc_lock.specs.Lists.{Each};
 ghost use Rattle.doc_lock.specs.Told.{Covers, knows, seats_of};
-ghost use Rattle.lock_trial.specs.Noting.{AreIdle, IsIdle, Keeps};
+ghost use Rattle.lock_trial.specs.Noting.{EachWriter, HasWritten, IsDone, IsFresh, IsIdle, IsReady, Keeps, notes_by, of_seat};
 
 use crate::notes::Notes;
 use crate::writing::write_note;
@@ -14,38 +14,45 @@ use std::sync::Wait;
 use std::thread;
 use std::thread::{Threads, join_mut};
 
-// Writes so many notes, numbered from 0 on, or fewer where memory is wanting.
-fn write_notes<R: Wait>(rt: &R, lock: &DocLock<Notes>, seat: &mut Seat<Notes>, notes: u64)
-    requires { IsIdle lock.now (knows seat.old).number seat.old }
-    ensures idle { IsIdle lock.now (knows seat.old).number seat.new }
-    ensures same { Keeps (knows seat.old) (knows seat.new) }
-{
-    for what in 0..notes {
-        if write_note(rt, lock, seat, what).is_err() {
-            break;
-        }
-    }
+// A writer's seat, and whether it wrote all its notes.
+struct Writer {
+    seat: Seat<Notes>,
+    wrote: Result<(), NoMemory>,
 }
 
-// Lends each seat to a writer.
-fn lend<R: Threads + Wait + Sync>(
+// Writes so many notes, numbered from 0 on, up to the first for which memory is wanting.
+fn write_notes<R: Wait>(
     rt: &R,
     lock: &DocLock<Notes>,
-    seats: &mut [Seat<Notes>],
+    seat: &mut Seat<Notes>,
     notes: u64,
-)
-    requires { AreIdle lock.now seats.old }
-    ensures { AreIdle lock.now seats.new }
+) -> Result<(), NoMemory>
+    requires idle { IsIdle lock.now (knows seat.old).number seat.old }
+    requires none { (knows seat.old).mine ≡ [] }
+    ensures idle { IsIdle lock.now (knows seat.old).number seat.new }
+    ensures same { Keeps (knows seat.old) (knows seat.new) }
+    ensures written { HasWritten notes result (knows seat.new) }
 {
-    let threads = seats.len().max(1);
+    for what in 0..notes {
+        write_note(rt, lock, seat, what)?;
+    }
+    Ok(())
+}
+
+// Lends each seat to a thread that writes.
+fn lend<R: Threads + Wait + Sync>(rt: &R, lock: &DocLock<Notes>, writers: &mut [Writer], notes: u64)
+    requires ready { EachWriter (IsReady lock.now) writers.old }
+    ensures done { EachWriter (IsDone notes lock.now) writers.new }
+{
+    let threads = writers.len().max(1);
     thread::for_each_mut(
         rt,
-        seats,
+        writers,
         threads,
-        &|i, seat: &mut Seat<Notes>|
-            requires { IsIdle lock.now (i + 1) seat.old }
-            ensures { IsIdle lock.entry.now (i + 1) seat.new }
-        { write_notes(rt, lock, seat, notes) },
+        &|i, writer: &mut Writer|
+            requires { IsReady lock.now (i + 1) writer.old }
+            ensures { IsDone notes lock.entry.now (i + 1) writer.new }
+        { writer.wrote = write_notes(rt, lock, &mut writer.seat, notes) },
     );
 }
 
@@ -54,60 +61,73 @@ fn write_all<'a, 'b, R: Threads + Wait + Sync>(
     rt: &'a R,
     lock: &'a DocLock<Notes>,
     seat: &'b mut Seat<Notes>,
-    seats: &'b mut [Seat<Notes>],
+    writers: &'b mut [Writer],
     notes: u64,
-)
-    requires first { IsIdle lock.now 0 seat.old }
-    requires others { AreIdle lock.now seats.old }
+) -> Result<(), NoMemory>
+    requires first { IsIdle lock.now 0 seat.old × ((knows seat.old).mine ≡ []) }
+    requires others { EachWriter (IsReady lock.now) writers.old }
     ensures first { IsIdle lock.now 0 seat.new }
     ensures same { Keeps (knows seat.old) (knows seat.new) }
-    ensures others { AreIdle lock.now seats.new }
+    ensures written { HasWritten notes result (knows seat.new) }
+    ensures others { EachWriter (IsDone notes lock.now) writers.new }
 {
-    join_mut(
+    let (wrote, ()) = join_mut(
         rt,
         &mut || write_notes(rt, lock, seat, notes),
         &mut ||
             requires after_bounds { IsSync R.row }
-            requires seats { AreIdle lock.now seats.now }
-            ensures seats { AreIdle lock.entry.now seats.exit.now }
-        { lend(rt, lock, seats, notes) },
+            requires ready { EachWriter (IsReady lock.now) writers.now }
+            ensures done { EachWriter (IsDone notes lock.entry.now) writers.exit.now }
+        { lend(rt, lock, writers, notes) },
     );
+    wrote
 }
 
 // Splits a seat off for each writer.
-fn deal(lock: &DocLock<Notes>, seat: &mut Seat<Notes>, seats: &mut Vec<Seat<Notes>>, writers: u32)
-    requires first { IsIdle lock.now 0 seat.old }
-    requires fresh { ((knows seat.old).made ≡ 1) × (vec_len seats.old ≡ 0) × ((knows seat.old).joined ≡ []) }
-    requires room { (writers < seats_of lock.now) × (writers ≤ vec_capacity seats.old) }
-    ensures first { IsIdle lock.now 0 seat.new }
-    ensures made { ((knows seat.new).made ≡ writers + 1) × ((knows seat.new).joined ≡ []) }
+fn deal(lock: &DocLock<Notes>, seat: &mut Seat<Notes>, writers: &mut Vec<Writer>, count: u32)
+    requires first { IsIdle lock.now 0 seat.old × IsFresh (knows seat.old) }
+    requires none { ((knows seat.old).made ≡ 1) × (vec_len writers.old ≡ 0) }
+    requires room { (count < seats_of lock.now) × (count ≤ vec_capacity writers.old) }
+    ensures first { IsIdle lock.now 0 seat.new × IsFresh (knows seat.new) }
+    ensures made { (knows seat.new).made ≡ count + 1 }
     ensures origin { (knows seat.new).origin ≡ (knows seat.old).origin }
-    ensures others { (vec_len seats.new ≡ writers) × AreIdle lock.now seats.new.items }
+    ensures others { (vec_len writers.new ≡ count) × EachWriter (IsReady lock.now) writers.new.items }
 {
-    for _ in 0..writers {
+    for _ in 0..count {
         let next = lock.split(seat);
-        seats.push_reserved(next);
+        writers.push_reserved(Writer {
+            seat: next,
+            wrote: Ok(()),
+        });
     }
 }
 
-// Takes all seats back.
-fn gather(lock: &DocLock<Notes>, seat: &mut Seat<Notes>, mut seats: Vec<Seat<Notes>>)
-    requires first { IsIdle lock.now 0 seat.old }
-    requires made { (knows seat.old).made ≡ vec_len seats + 1 }
-    requires others { AreIdle lock.now seats.items }
+// Takes all seats back, and says whether each writer wrote all its notes.
+fn gather(
+    lock: &DocLock<Notes>,
+    seat: &mut Seat<Notes>,
+    writers: &mut Vec<Writer>,
+) -> Result<(), NoMemory>
+    requires first { IsIdle lock.now 0 seat.old × ((knows seat.old).joined ≡ []) }
+    requires made { (knows seat.old).made ≡ vec_len writers.old + 1 }
+    requires others { (n : ℕ) × EachWriter (IsDone n lock.now) writers.old.items }
     ensures first { IsIdle lock.now 0 seat.new }
     ensures all { Covers (knows seat.new) }
-    ensures made { (knows seat.new).made ≡ (knows seat.old).made }
-    ensures origin { (knows seat.new).origin ≡ (knows seat.old).origin }
+    ensures none { vec_len writers.new ≡ 0 }
+    ensures same { ((knows seat.new).made ≡ (knows seat.old).made) × ((knows seat.new).origin ≡ (knows seat.old).origin) × ((knows seat.new).mine ≡ (knows seat.old).mine) }
+    ensures written { IfOk result (λ _. (n : ℕ) → EachWriter (IsDone n lock.now) writers.old.items → Each (λ p. p.mine ≡ notes_by p.number n) (knows seat.new).joined) }
 {
-    while let Some(other) = seats.pop() {
+    let mut all = Ok(());
+    while let Some(writer) = writers.pop() {
+        let Writer { seat: other, wrote } = writer;
         lock.join_back(seat, other);
+        all = all.and(wrote);
     }
-    seats.destroy_empty();
+    all
 }
 
-/// The notes of so many writers in threads and of the first seat beside them, each of whom writes so many, or
-/// fewer where memory is wanting.
+/// The notes of so many writers in threads and of the first seat beside them, each of whom writes so many. Where
+/// memory is wanting for one note, the others are dropped.
 pub fn write_beside<R: Threads + Wait + Sync>(
     rt: &R,
     alloc: Global,
@@ -115,17 +135,22 @@ pub fn write_beside<R: Threads + Wait + Sync>(
     writers: u32,
     notes: u64,
 ) -> Result<Notes, NoMemory>
-    requires { writers < 4294967295 }
+    requires seats { writers < 4294967295 }
     ensures day { IfOk result (λ n. n.day ≡ day) }
     ensures writers { IfOk result (λ n. Each (λ e. e.by < writers + 1) n.notes.items) }
+    ensures written { IfOk result (λ n. (by : ℕ) → by < writers + 1 → of_seat by n.notes.items ≡ notes_by by notes) }
 {
-    let mut seats = Vec::with_capacity(alloc, writers as usize)?;
+    let mut others = Vec::with_capacity(alloc, writers as usize)?;
     let Ok((lock, mut seat)) = DocLock::new(alloc, Notes::new(alloc, day), writers + 1) else {
-        seats.destroy_empty();
+        others.destroy_empty();
         return Err(NoMemory);
     };
-    deal(&lock, &mut seat, &mut seats, writers);
-    write_all(rt, &lock, &mut seat, seats.as_mut_slice(), notes);
-    gather(&lock, &mut seat, seats);
-    Ok(lock.close(seat))
+    deal(&lock, &mut seat, &mut others, writers);
+    let first_wrote = write_all(rt, &lock, &mut seat, others.as_mut_slice(), notes);
+    let others_wrote = gather(&lock, &mut seat, &mut others);
+    others.destroy_empty();
+    let written = lock.close(seat);
+    first_wrote?;
+    others_wrote?;
+    Ok(written)
 }

@@ -1,5 +1,5 @@
 //! One note, in one holding.
-ghost use Rattle.std.specs.Prelude.{◌≡◌, ◌≢◌, ◌+◌, [], ◌∷◌, ◌++◌, true, false, MatchResult, MatchOption};
+ghost use Rattle.std.specs.Prelude.{◌≡◌, ◌≢◌, ◌+◌, ◌<◌, [], ◌∷◌, ◌++◌, true, false, MatchResult, MatchOption};
 ghost use Rattle.doc_lock.specs.Told.{IsOf, IsBeside, knows};
 ghost use Rattle.doc_lock.specs.Lists.{Begins};
 ghost use Rattle.lock_trial.specs.Noting.{Keeps, note};
@@ -20,6 +20,7 @@ pub fn write_note<R: Wait>(
     requires free { (knows seat.old).holds ≡ false }
     ensures lock { IsBeside seat.old seat.new }
     ensures same { Keeps (knows seat.old) (knows seat.new) }
+    ensures held { ((knows seat.old).tries < (knows seat.new).tries) × ((knows seat.new).found ≡ 0) }
     ensures mine { MatchResult result (λ _. (knows seat.new).mine ≡ (knows seat.old).mine ++ note (knows seat.old).number what ∷ []) (λ _. (knows seat.new).mine ≡ (knows seat.old).mine) }
     ensures seen { Begins (knows seat.old).seen (knows seat.new).seen }
 {

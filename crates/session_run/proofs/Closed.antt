@@ -1,21 +1,18 @@
 -- What stands of a run once its history is closed.
-use Rattle.std.proofs.Common.{◌≡◌, ℕ, ◌<◌, ◌≤◌, ◌⊎◌, inl, inr, List, [], ◌∷◌, ◌++◌, length, take, drop, Option, None, Some, IfSome, Bool, true, false, ◌||◌, refl, sym, ap, ◌∙◌, subst, append-nil, length-append, arith}
-use Rattle.std.specs.Io.KnownBytes.{Appends, IsAtEnd}
+use Rattle.std.proofs.Common.{◌≡◌, ℕ, ◌<◌, ◌⊎◌, inl, inr, List, [], ◌∷◌, ◌++◌, length, take, Option, None, Some, IfSome, Bool, true, false, ◌||◌, refl, sym, ap, ◌∙◌, subst, append-nil, arith}
+use Rattle.std.specs.Io.KnownBytes.{Appends}
 use Rattle.std.proofs.Math.Seq.{take-append_seam}
 use Rattle.std.proofs.lemmas.List.{take_all}
 use Rattle.stm_base.specs.Counts.{Rose, Stood}
 use Rattle.stm_base.specs.Output.{Output, AppendsPrefix, Grew, IsPut, fresh}
-use Rattle.sexp_theory.specs.declared.input.InputEnd.{InputEnd}
 use Rattle.sexp_theory.specs.declared.input.InputEnd.TheVariants.{Clean, Truncated}
 use Rattle.serapi_cmd.specs.declared.request.Request.{Request}
 use Rattle.serapi_cmd.specs.declared.request.Request.TheVariants.{Do, Bad}
 use Rattle.serapi_ans.specs.declared.line.Line.{Line}
-use Rattle.serapi_ans.specs.declared.line.Line.TheVariants as line
-use Rattle.serapi_cmd.specs.Requests.{input_end}
 use Rattle.session_run.specs.Items.{requests_in}
 use Rattle.session_run.specs.Answers.{Document, MayBe, answer, command_lines, last_lines}
 use Rattle.session_run.specs.Histories.{Place, start, step, place, Legal, LegalFrom, render, requests, outcomes}
-use Rattle.session_run.specs.Headline.{AllWhole, EndsClean, EndsInside, HasCompleteness, HasDoneCause, HasRead, HasReadFaultCause, HasTooLongCause, HasTruncatedCause, HasWriteFaultCause, HasWritten, IsAnswered, IsClean, HasLegalHistory, IsOneThread, IsOrLost, IsQuit, IsStatus, IsTaken, IsTooLong, IsTruncated, any_short, has_short, is_short}
+use Rattle.session_run.specs.Headline.{AllWhole, EndsClean, EndsInside, HasCompleteness, HasDoneCause, HasRead, HasReadFaultCause, HasTooLongCause, HasTruncatedCause, HasWriteFaultCause, HasWritten, IsAnswered, IsClean, HasLegalHistory, IsOneThread, IsOrLost, IsQuit, IsStatus, IsTooLong, IsTruncated, any_short, has_short, is_short}
 use Rattle.session_run.specs.Serving.{Begins, HasStopped, IsAll, IsLost, Served, status_of, status_of_loss}
 use Rattle.session_run.proofs.Grown.{place-grown, legal-grown, render-grown, requests-closed, one_thread}
 use Rattle.session_run.specs.declared.cut.Cut.{Cut}
@@ -43,7 +40,7 @@ record Facts (before : Option (List ℕ)) (r s n : ℕ) (at_end : Bool) (status 
   at_quit : IsQuit k → IsOrLost status DONE
   at_clean : IfSome before (λ all. IsClean all n at_end k → IsOrLost status DONE)
   read_fault : status ≡ READ_FAULT → Rose r s
-  reads : (status ≡ DONE) ⊎ ((status ≡ TRUNCATED) ⊎ (status ≡ TOO_LONG)) → s ≡ r
+  reads : (status ≡ READ_FAULT) ⊎ (s ≡ r)
   write_fault : status ≡ WRITE_FAULT → Rose o.first_faults o.faults
   truncated_only : status ≡ TRUNCATED → IfSome before (λ all. IsTruncated all n at_end k)
   truncated_always : IfSome before (λ all. IsTruncated all n at_end k → IsOrLost status TRUNCATED)
@@ -81,10 +78,6 @@ not-answered status (inr e) (inr (inl d)) = omega arith
 not-answered status (inr e) (inr (inr (inl d))) = omega arith
 not-answered status (inr e) (inr (inr (inr d))) = omega arith
 
-answered-read : (status : ℕ) → (status ≡ DONE) ⊎ ((status ≡ TRUNCATED) ⊎ (status ≡ TOO_LONG)) → IsAnswered status
-answered-read status (inl e) = inl e
-answered-read status (inr e) = inr (inr e)
-
 answered-stop : (status : ℕ) → (status ≡ READ_FAULT) ⊎ (status ≡ TOO_LONG) → IsAnswered status
 answered-stop status (inl e) = inr (inl e)
 answered-stop status (inr e) = inr (inr (inr e))
@@ -115,7 +108,7 @@ facts-lost before r s n at_end loss k o h =
       at_quit = λ _. inr other;
       at_clean = each before _ (λ all c. inr other);
       read_fault = λ e. absurd (not (inr (inl e)));
-      reads = λ e. absurd (not (answered-read status e));
+      reads = inr h.2;
       write_fault = lost-fault loss o h.1;
       truncated_only = λ e. absurd (not (inr (inr (inl e))));
       truncated_always = each before _ (λ all t. inr other);
@@ -132,11 +125,6 @@ truncated-stops : (A : Type 0) → (TRUNCATED ≡ READ_FAULT) ⊎ (TRUNCATED ≡
 truncated-stops A (inl e) = absurd (omega arith)
 truncated-stops A (inr e) = absurd (omega arith)
 
-fault-reads : (A : Type 0) → (READ_FAULT ≡ DONE) ⊎ ((READ_FAULT ≡ TRUNCATED) ⊎ (READ_FAULT ≡ TOO_LONG)) → A
-fault-reads A (inl e) = absurd (omega arith)
-fault-reads A (inr (inl e)) = absurd (omega arith)
-fault-reads A (inr (inr e)) = absurd (omega arith)
-
 facts-quit : (before : Option (List ℕ)) (r s n : ℕ) (at_end : Bool) (k : List Entry) (o : Output)
     → HasStopped Quit before r s n at_end k o → Facts before r s n at_end DONE k o
 facts-quit before r s n at_end k o h = record {
@@ -151,7 +139,7 @@ facts-quit before r s n at_end k o h = record {
   at_quit = λ _. inl refl;
   at_clean = each before _ (λ all c. inl refl);
   read_fault = λ e. absurd (omega arith);
-  reads = λ _. h.3;
+  reads = inr h.3;
   write_fault = λ e. absurd (omega arith);
   truncated_only = λ e. absurd (omega arith);
   truncated_always = each before _ (λ all t. differs (place k).quit _ h.1 t.no_quit);
@@ -174,7 +162,7 @@ facts-clean before r s n at_end k o h = record {
   at_quit = λ _. inl refl;
   at_clean = each before _ (λ all c. inl refl);
   read_fault = λ e. absurd (omega arith);
-  reads = λ _. h.3;
+  reads = inr h.3;
   write_fault = λ e. absurd (omega arith);
   truncated_only = λ e. absurd (omega arith);
   truncated_always = mapped before _ (λ all. IsTruncated all n at_end k → IsOrLost DONE TRUNCATED) (λ all e t. absurd (subst EndsInside e t.inside)) h.5;
@@ -197,7 +185,7 @@ facts-truncated before r s n at_end p k o h = record {
   at_quit = λ q. differs (place k).quit _ q h.1;
   at_clean = mapped before _ (λ all. IsClean all n at_end k → IsOrLost TRUNCATED DONE) (λ all e c. absurd (subst EndsClean e c.clean)) h.5;
   read_fault = λ e. absurd (omega arith);
-  reads = λ _. h.3;
+  reads = inr h.3;
   write_fault = λ e. absurd (omega arith);
   truncated_only = λ _. mapped before _ (λ all. IsTruncated all n at_end k) (λ all e. record { ended = h.4; no_quit = h.1; inside = subst EndsInside (sym e) tt }) h.5;
   truncated_always = each before _ (λ all t. inl refl);
@@ -220,7 +208,7 @@ facts-fault before r s n at_end k o h = record {
   at_quit = λ q. differs (place k).quit _ q h.1;
   at_clean = each before _ (λ all c. differs at_end _ c.ended h.4);
   read_fault = λ _. h.3;
-  reads = fault-reads (s ≡ r);
+  reads = inl refl;
   write_fault = λ e. absurd (omega arith);
   truncated_only = λ e. absurd (omega arith);
   truncated_always = each before _ (λ all t. differs at_end _ t.ended h.4);
@@ -243,7 +231,7 @@ facts-limit before r s n at_end k o h = record {
   at_quit = λ q. differs (place k).quit _ q h.1;
   at_clean = each before _ (λ all c. differs at_end _ c.ended h.4);
   read_fault = λ e. absurd (omega arith);
-  reads = λ _. h.3;
+  reads = inr h.3;
   write_fault = λ e. absurd (omega arith);
   truncated_only = λ e. absurd (omega arith);
   truncated_always = each before _ (λ all t. differs at_end _ t.ended h.4);

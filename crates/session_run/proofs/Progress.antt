@@ -1,25 +1,25 @@
 -- How the unread bytes and the history go on together.
-use Rattle.std.proofs.Common.{◌≡◌, ℕ, ◌+◌, ◌-◌, ◌<◌, ◌≤◌, ◌⊎◌, inl, inr, List, [], ◌∷◌, ◌++◌, length, take, drop, Option, None, Some, IfSome, Bool, true, false, refl, sym, ap, ◌∙◌, subst, append_assoc, append-nil, length-append, length-drop, arith}
+use Rattle.std.proofs.Common.{◌≡◌, ℕ, ◌+◌, ◌<◌, ◌≤◌, ◌⊎◌, inl, inr, List, [], ◌∷◌, ◌++◌, length, take, drop, Option, None, Some, IfSome, Bool, true, false, refl, sym, ap, ◌∙◌, subst, append_assoc, append-nil, length-append, length-drop, arith}
 use Rattle.std.specs.Prelude.{if◌then◌else◌, option_map}
 use Rattle.std.specs.Io.KnownBytes.{Consumes, Keeps, IsAtEnd}
 use Rattle.std.proofs.Math.Seq.{take-add, take-append_seam, drop-append_seam}
 use Rattle.std.proofs.lemmas.List.{drop-drop}
 use Rattle.stm_base.specs.Counts.{Rose}
 use Rattle.stm_base.specs.Output.{Output}
-use Rattle.sexp_theory.specs.Items.{Item, Unread, Taken, taken, items_of, end_of, fed, fresh, whole_text, without_gap, most_bytes, end_offset, last_items}
+use Rattle.sexp_theory.specs.Items.{Item, Unread, Taken, taken, items_of, end_of, fed, fresh, without_gap, most_bytes, last_items}
 use Rattle.sexp_theory.specs.declared.input.InputEnd.{InputEnd}
-use Rattle.sexp_theory.proofs.Streams.{items-taken, end-taken, items-without_gap, end-without_gap, items-none, items-last, fed-both, fed-nothing, end_offset-taken, end_offset-without_gap}
+use Rattle.sexp_theory.proofs.Streams.{items-taken, end-taken, items-without_gap, end-without_gap, items-none, items-last, fed-both, fed-nothing}
 use Rattle.serapi_cmd.specs.Requests.{input_end, request_of, requests_from, is_quit}
 use Rattle.serapi_cmd.specs.declared.request.Request.{Request}
 use Rattle.session_run.specs.Items.{requests_in}
 use Rattle.session_run.specs.Histories.{place, requests}
 use Rattle.session_run.specs.Headline.{IsTaken}
-use Rattle.session_run.specs.Serving.{Begins, EndsAlike, Finishes, HasStopped, IsAll, IsLost, IsReading, Leads, Passes, ReadingOf, Served, Takes, TakesIn, Went, behind, last_requests, stop_after}
+use Rattle.session_run.specs.Serving.{Begins, EndsAlike, Finishes, HasStopped, IsAll, IsReading, Leads, Passes, ReadingOf, Served, Takes, TakesIn, Went, behind, last_requests, stop_after}
 use Rattle.session_run.specs.declared.history.Entry.{Entry}
 use Rattle.session_run.specs.declared.serve.Answered.{Answered}
 use Rattle.session_run.specs.declared.serve.Answered.TheVariants.{More, Quit, Lost}
 use Rattle.session_run.specs.declared.serve.Loss.{Loss}
-use Rattle.session_run.specs.declared.serve.Loss.TheVariants.{WriteFault, WantOfMemory}
+use Rattle.session_run.specs.declared.serve.Loss.TheVariants.{WantOfMemory}
 use Rattle.session_run.specs.declared.serve.Stop.{Stop}
 use Rattle.session_run.specs.declared.serve.Stop.TheVariants as stop
 use Rattle.session_run.specs.declared.serve.TheConstants.{INPUT_LIMIT}
@@ -267,7 +267,7 @@ served-none o r h out e = record {
   taken_bytes = taken-of o o 0 h fresh (reading-start o h e);
   limit = omega arith;
   nothing_left = λ d. absurd (cc);
-  stopped = (begins-of o o 0 h h fresh false (behind h fresh [] false) (reading-start o h e) refl, tt);
+  stopped = (begins-of o o 0 h h fresh false (behind h fresh [] false) (reading-start o h e) refl, tt, refl);
 }
 
 -- a Quit in a piece
@@ -282,12 +282,12 @@ served-quit o a r s n h k u v out reads limit p same = record {
 
 -- no more could be answered in a piece
 pub served-lost : (o a : Option (List ℕ)) (r s n : ℕ) (h k : List Entry) (u v : Unread) (loss : Loss) (out : Output) → IsReading o a n h u → n ≤ INPUT_LIMIT → Passes (Lost loss) u h v k out
-    → Served o a r s n false (stop.Lost loss) k out
-served-lost o a r s n h k u v loss out reads limit p = record {
+    → s ≡ r → Served o a r s n false (stop.Lost loss) k out
+served-lost o a r s n h k u v loss out reads limit p same = record {
   taken_bytes = taken-of o a n h u reads;
   limit = limit;
   nothing_left = λ e. absurd (cc);
-  stopped = (begins-of o a n h k u false (p.0.0 [] false) reads (p.0.1 [] false), p.1);
+  stopped = (begins-of o a n h k u false (p.0.0 [] false) reads (p.0.1 [] false), p.1, same);
 }
 
 ended-alike : (o a : Option (List ℕ)) (n : ℕ) (h : List Entry) (u : Unread) (end : InputEnd) → IsReading o a n h u → end ≡ end_of most_bytes u → IfSome o (λ all. input_end (take n all) ≡ end)
@@ -302,7 +302,7 @@ stopped-end o a r s n h k u (stop.End end) out reads g f same =
     (all-of o a n h k u true reads (at_end-behind h u g ∙ f.0), f.1, f.2, same, refl, ended-alike o a n h u end reads f.3)
 stopped-end o a r s n h k u stop.Fault out reads g f same = absurd f
 stopped-end o a r s n h k u stop.Limit out reads g f same = absurd f
-stopped-end o a r s n h k u (stop.Lost loss) out reads g f same = (begins-of o a n h k u true f.0.0 reads (at_end-behind h u g ∙ f.0.1), f.1)
+stopped-end o a r s n h k u (stop.Lost loss) out reads g f same = (begins-of o a n h k u true f.0.0 reads (at_end-behind h u g ∙ f.0.1), f.1, same)
 
 -- the end of the input
 pub served-end : (o a b : Option (List ℕ)) (r s n : ℕ) (h k : List Entry) (u : Unread) (how : Stop) (out : Output) → IsReading o a n h u → Consumes a b [] → n ≤ INPUT_LIMIT → IsAtEnd b

@@ -4,10 +4,7 @@ use Rattle.std.specs.Prelude.{if◌then◌else◌}
 use Rattle.vern_step.specs.declared.parameter.FirstFault.{FirstFault}
 use Rattle.serapi_cmd.specs.declared.command.AddOpts.{AddOpts}
 use Rattle.serapi_cmd.specs.declared.command.Command.TheVariants.{Add}
-use Rattle.sexp_theory.specs.Items.{Item, value_item, bad_item}
-use Rattle.serapi_cmd.specs.Requests.{request_of}
 use Rattle.session_run.specs.Answers.{Document, is_simple, lines_of_reading, reading_of}
-use Rattle.session_run.specs.Histories.{IsNumbered}
 use Rattle.session_run.specs.Plans.{IsPlan}
 use Rattle.session_run.specs.declared.cut.Cut.TheVariants.{After}
 use Rattle.serapi_ans.specs.declared.line.Line.{Line}

@@ -126,10 +126,10 @@ pub record HasDoneCause (before : Option (List ℕ)) (status taken : ℕ) (at_en
   pub at_quit : IsQuit h → IsOrLost status DONE
   pub at_clean : IfSome before (λ all. IsClean all taken at_end h → IsOrLost status DONE)
 
--- 3: only where the source's count rose in this call, and with 0, 6 and 7 it stayed: no failed read is passed over
+-- 3: only where the source's count rose in this call, and with every other status it stayed: no failed read is passed over
 pub record HasReadFaultCause (old_count new_count status : ℕ) : Type 0 where
   pub only : status ≡ READ_FAULT → Rose old_count new_count
-  pub passed : (status ≡ DONE) ⊎ ((status ≡ TRUNCATED) ⊎ (status ≡ TOO_LONG)) → new_count ≡ old_count
+  pub passed : (status ≡ READ_FAULT) ⊎ (new_count ≡ old_count)
 
 -- 4: only where the sink's count rose in this call, and with 0, 3, 6 and 7 it stayed: no failed write is passed over
 pub record HasWriteFaultCause (old_count new_count status : ℕ) : Type 0 where

@@ -3,7 +3,7 @@ use Rattle.std.specs.Prelude.{◌≡◌, ℕ, ◌+◌, ◌≤◌, ◌<◌, ◌�
 use Rattle.std.specs.Io.KnownBytes.{IsAtEnd}
 use Rattle.stm_base.specs.Counts.{Rose}
 use Rattle.stm_base.specs.Output.{Output, IsPut, fresh}
-use Rattle.sexp_theory.specs.Items.{Item, Unread, items_of, end_of, taken, fed, whole_text, most_bytes, end_offset}
+use Rattle.sexp_theory.specs.Items.{Unread, items_of, end_of, taken, fed, most_bytes, end_offset}
 use Rattle.sexp_theory.specs.declared.input.InputEnd.{InputEnd}
 use Rattle.sexp_theory.specs.declared.input.InputEnd.TheVariants.{Clean, Truncated}
 use Rattle.sexp_core.specs.Reading.{Reading}
@@ -153,7 +153,8 @@ HasStopped stop.Fault before r s n at_end k o =
     IsAll before n at_end k × ((place k).quit ≡ false) × (o.failed ≡ false) × Rose r s × (at_end ≡ false) × (n < INPUT_LIMIT)
 HasStopped stop.Limit before r s n at_end k o =
     IsAll before n at_end k × ((place k).quit ≡ false) × (o.failed ≡ false) × (s ≡ r) × (at_end ≡ false) × (n ≡ INPUT_LIMIT)
-HasStopped (stop.Lost loss) before r s n at_end k o = IfSome before (λ all. Begins (requests_in (take n all) at_end) k) × IsLost loss o
+HasStopped (stop.Lost loss) before r s n at_end k o =
+    IfSome before (λ all. Begins (requests_in (take n all) at_end) k) × IsLost loss o × (s ≡ r)
 
 -- what was served of a source
 pub record Served (before now : Option (List ℕ)) (r s : ℕ) (n : ℕ) (at_end : Bool) (stop : Stop) (k : List Entry) (o : Output) : Type 0 where

@@ -155,6 +155,14 @@ fn shift(rt: &impl Abort, a: &Formula, from: u64, by: u64) -> Result<Formula, No
     a.shift(from, by)
 }
 
+/// A shift of a small term.
+#[tactic(auto, using(crate::proofs::Bounds::bounds))]
+fn shift_term(rt: &impl Abort, t: &Term, from: u64, by: u64) -> Result<Term, NoMemory> {
+    assert!(rt; by < SMALL);
+    assert!(rt; is_term_within(t, SMALL));
+    t.shift(from, by)
+}
+
 /// A substitution in a small formula.
 #[tactic(auto, using(crate::proofs::Bounds::bounds))]
 fn substitute(rt: &impl Abort, a: &Formula, index: u64, value: &Term) -> Result<Formula, NoMemory> {
@@ -256,6 +264,16 @@ fn serves_terms(rt: HostRuntime) -> Result<(), Fail> {
     assert!(rt; !t.same(&value));
     assert!(rt; !t.same(&Term::Var(1)));
     assert_eq!(rt; (t.size(), t.height()), (3, 2));
+    for (from, by, i, j) in [
+        (0, 3, 4, 5),
+        (1, 3, 4, 5),
+        (2, 3, 1, 5),
+        (3, 3, 1, 2),
+        (1, 0, 1, 2),
+    ] {
+        let want = f_of(rt.alloc(), i, j)?;
+        assert!(rt; shift_term(&rt, &t, from, by)?.same(&want), "{from} {by}");
+    }
     let replaced = t.substitute(1, &value)?;
     let want = f(rt.alloc(), value, Term::Var(1))?;
     assert!(rt; replaced.same(&want));

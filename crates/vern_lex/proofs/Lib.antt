@@ -2,6 +2,7 @@ pub mod Alone
 pub mod Between
 pub mod Cuts
 pub mod Cutting
+pub mod Faults
 pub mod Gaps
 pub mod Lexing
 pub mod Outsides

@@ -1,7 +1,7 @@
 -- Where the sentences of a text stand.
-use Rattle.std.specs.Prelude.{◌≡◌, ℕ, zero, suc, ◌+◌, ◌-◌, ◌<◌, ◌≤◌, ◌&&◌, ◌||◌, ◌==◌, List, [], ◌∷◌, length, drop, Bool, true, false, nat_le, Option, Some, None, Result, Ok, Err, if◌then◌else◌}
+use Rattle.std.specs.Prelude.{◌≡◌, ◌⊎◌, ℕ, zero, suc, ◌+◌, ◌-◌, ◌<◌, ◌≤◌, ◌&&◌, ◌||◌, ◌==◌, List, [], ◌∷◌, length, drop, Bool, true, false, not, nat_le, Option, Some, None, Result, Ok, Err, if◌then◌else◌}
 use Rattle.std.specs.List.{prefix_len}
-use Rattle.vern_lex.specs.Comments.{IsGap, is_blank, opens_comment, outside, first_place, begins, part}
+use Rattle.vern_lex.specs.Comments.{IsGap, is_blank, is_gap, opens_comment, outside, first_place, begins, part}
 use Rattle.vern_lex.specs.declared.span.Span.{Span}
 use Rattle.vern_lex.specs.declared.sentences.SentenceCut.{SentenceCut}
 use Rattle.vern_lex.specs.declared.sentences.CutFault.{CutFault}
@@ -73,7 +73,7 @@ sentences_behind (suc most) text at =
 abbrev pub sentences_of : List ℕ → SentenceCut
 sentences_of text = sentences_behind (length text) (outside text) 0
 
--- ---- what spans of sentences are
+-- ---- what spans of sentences and a fault are
 
 -- a span of a text: it has 1 to 65,536 bytes and begins with neither a blank nor a comment
 pub record IsSentenceSpan (text : List ℕ) (span : Span) : Type 0 where
@@ -101,3 +101,19 @@ HasGapsBefore text at (span ∷ spans) = IsGap (part at span.from text) × HasGa
 abbrev pub IsCutAlone : List ℕ → Span → Type 0
 IsCutAlone text span =
     sentences_of (part span.from span.to text) ≡ record { spans = record { from = 0; to = span.to - span.from } ∷ []; rest = span.to - span.from; fault = None }
+
+-- the offset of a fault
+abbrev pub place_of : CutFault → ℕ
+place_of (Unclosed at) = at
+place_of (TooLong at) = at
+
+-- the text begins with a byte from which a sentence needs a full stop
+abbrev pub needs_full_stop : List ℕ → Bool
+needs_full_stop [] = false
+needs_full_stop (b ∷ rest) = not (is_gap b || is_brace b || is_bullet b)
+
+-- Unclosed: at its offset begins a comment that doesn't end, or else a sentence that needs a full stop, and neither one that ends a sentence
+-- nor such a comment stands from there to the text's end; TooLong: there begins a sentence of more than 65,536 bytes
+abbrev pub IsFaultOf : List ℕ → CutFault → Type 0
+IsFaultOf text (Unclosed at) = (opens_comment (drop at text) ≡ true) ⊎ ((needs_full_stop (drop at text) ≡ true) × (first_place stops (drop at text) ≡ length (drop at text)))
+IsFaultOf text (TooLong at) = (begins (drop at text) ≡ true) × ((n : ℕ) × (sentence_length at (drop at text) ≡ Ok n) × (65536 < n))

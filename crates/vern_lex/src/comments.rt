@@ -153,6 +153,7 @@ fn closes_comment(text: &[u8]) -> bool
     matches!(text, [b'*', b')', ..])
 }
 
+/// Whether a byte is a tab, a line feed, a form feed, a carriage return or a space.
 pub fn is_blank(byte: u8) -> bool
     ensures { result ≡ is_blank byte }
 {

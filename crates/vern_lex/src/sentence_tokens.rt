@@ -130,10 +130,32 @@ mod tests {
     type Row = (TokenKind, u64, u64);
 
     /// Sentences with their tokens.
-    const CASES: [(&[u8], &[Row]); 23] = [
+    const CASES: [(&[u8], &[Row]); 25] = [
         (b"", &[]),
         (b" (* x *) ", &[]),
         (b"Qed.", &[(Name, 0, 3), (FullStop, 3, 4)]),
+        (
+            b"Parameter : Prop.",
+            &[
+                (Name, 0, 9),
+                (Colon, 10, 11),
+                (Prop, 12, 16),
+                (FullStop, 16, 17),
+            ],
+        ),
+        (
+            b"Axiom a : A -> B /\\ .",
+            &[
+                (Name, 0, 5),
+                (Name, 6, 7),
+                (Colon, 8, 9),
+                (Name, 10, 11),
+                (Arrow, 12, 14),
+                (Name, 15, 16),
+                (And, 17, 19),
+                (FullStop, 20, 21),
+            ],
+        ),
         (b"--", &[(Bullet, 0, 2)]),
         (b"*", &[(Bullet, 0, 1)]),
         (b"-+", &[(Stray, 0, 1), (Stray, 1, 2)]),

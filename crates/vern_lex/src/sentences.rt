@@ -1,8 +1,9 @@
 //! The sentences of a text.
-ghost use Rattle.std.specs.Prelude.{◌≡◌, ℕ, List, All, ◌+◌, ◌<◌, ◌≤◌, ◌==◌, ◌^◌, length, drop, IfOk, None};
+ghost use Rattle.std.specs.Prelude.{◌≡◌, ℕ, List, All, ◌+◌, ◌<◌, ◌≤◌, ◌==◌, ◌^◌, length, drop, IfOk, Some, None};
 ghost use Rattle.std.specs.List.{prefix_len};
 ghost use Rattle.vern_lex.specs.Comments.{IsGap, comment_length, first_place, outside};
-ghost use Rattle.vern_lex.specs.Sentences.{HasGapsBefore, IsCutAlone, IsSentenceSpan, Rise, last_end, is_brace, is_bullet, next_sentence, sentence_at, sentence_length, sentences_of, length_to_full_stop, stops, is_blank_or_end, within_limit};
+ghost use Rattle.vern_lex.specs.declared.sentences.CutFault.{CutFault};
+ghost use Rattle.vern_lex.specs.Sentences.{HasGapsBefore, IsCutAlone, IsFaultOf, IsSentenceSpan, Rise, last_end, place_of, is_brace, is_bullet, next_sentence, sentence_at, sentence_length, sentences_of, length_to_full_stop, stops, is_blank_or_end, within_limit};
 
 use crate::comments::{comment_length, gap_length, is_blank, opens_comment};
 use crate::span::{Span, Spans};
@@ -55,7 +56,7 @@ pub fn cut_sentences(alloc: Global, text: &[u8]) -> Result<SentenceCut, NoMemory
 
 /// The laws of cutting: spans rise and don't overlap, each is of a sentence, and its bytes cut alone are that
 /// sentence; `rest` is where the last ends; blanks and comments before a sentence don't belong to it, and they
-/// alone are left where there is no fault.
+/// alone are left where there is no fault; a fault isn't before `rest`, and at its offset stands what it says.
 pub fn spans_are_of_sentences()
     ensures rise { (text : List ℕ) → Rise 0 (sentences_of text).spans }
     ensures each { (text : List ℕ) → All (IsSentenceSpan text) (sentences_of text).spans }
@@ -63,6 +64,7 @@ pub fn spans_are_of_sentences()
     ensures rest { (text : List ℕ) → (sentences_of text).rest ≡ last_end 0 (sentences_of text).spans }
     ensures between { (text : List ℕ) → All (λ b. b < 256) text → HasGapsBefore text 0 (sentences_of text).spans }
     ensures left { (text : List ℕ) → All (λ b. b < 256) text → (sentences_of text).fault ≡ None → IsGap (drop (sentences_of text).rest text) }
+    ensures faulted { (text : List ℕ) (fault : CutFault) → (sentences_of text).fault ≡ Some fault → ((sentences_of text).rest ≤ place_of fault) × IsFaultOf (outside text) fault }
 {}
 
 /// What was cut up to an offset where nothing more is.
@@ -212,10 +214,23 @@ mod tests {
     type Fault = Option<CutFault>;
 
     /// Texts with the spans of their sentences, one after the other, and the fault.
-    const CASES: [(&[u8], &[u64], Fault); 34] = [
+    const CASES: [(&[u8], &[u64], Fault); 36] = [
         (
             b"split. - exact b. - exact a. Qed.",
             &[0, 6, 7, 8, 9, 17, 18, 19, 20, 28, 29, 33],
+            None,
+        ),
+        (
+            b"Parameter A : Prop. Parameter B : Prop. Lemma c : A /\\ B -> B /\\ A. Proof. intro h. destruct h as [a b]. split. exact b. exact a. Qed.",
+            &[
+                0, 19, 20, 39, 40, 67, 68, 74, 75, 83, 84, 104, 105, 111, 112, 120, 121, 129, 130,
+                134,
+            ],
+            None,
+        ),
+        (
+            b"Parameter A : Prop. Parameter : Prop. Parameter B : Prop.",
+            &[0, 19, 20, 37, 38, 57],
             None,
         ),
         (b"", &[], None),

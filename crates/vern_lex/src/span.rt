@@ -42,6 +42,7 @@ impl Spans {
         self.spans
     }
 
+    /// The spans, in order.
     pub fn as_slice(&self) -> &[Span]
         ensures { result.now ≡ self.now }
     {
@@ -55,6 +56,7 @@ impl Spans {
         self.spans.len()
     }
 
+    /// Whether there is none.
     pub fn is_empty(&self) -> bool
         ensures { IsTrue result ↔ (length self.now ≡ 0) }
     {

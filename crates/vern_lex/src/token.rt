@@ -89,6 +89,7 @@ impl Tokens {
         self.tokens
     }
 
+    /// The tokens, in order.
     pub fn as_slice(&self) -> &[Token]
         ensures { result.now ≡ self.now }
     {
@@ -102,6 +103,7 @@ impl Tokens {
         self.tokens.len()
     }
 
+    /// Whether there is none.
     pub fn is_empty(&self) -> bool
         ensures { IsTrue result ↔ (length self.now ≡ 0) }
     {

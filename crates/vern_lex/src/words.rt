@@ -51,6 +51,7 @@ pub fn word_kind(word: &[u8]) -> TokenKind
     }
 }
 
+/// Whether a byte is an ASCII letter or `_`.
 pub fn begins_name(byte: u8) -> bool
     ensures { result ≡ begins_name byte }
 {

@@ -1,4 +1,4 @@
-//! What any seat does that holds nothing.
+//! What any seat does, whatever its number.
 ghost use Rattle.std.specs.Prelude.{◌≡◌, ℕ, ◌+◌, ◌<◌, ◌≢◌, true, false, [], ◌∷◌, length, Some, None};
 ghost use Rattle.doc_lock.specs.Told.{MatchTried, IsOf, IsBeside, IsHeldOf, Gets, GetsAtLast, Misses, Rests, held_state, knows};
 
@@ -13,13 +13,13 @@ use std::sync::Wait;
 impl<S, E, O> SeatOf<S, E, O> {
     /// The seat's number.
     pub fn number(&self) -> u32
-        ensures { result ≡ (knows self.now).number }
+        ensures number { result ≡ (knows self.now).number }
     {
         self.number
     }
 }
 
-// Any seat that holds nothing: it tries, holds and rests.
+// Any seat: it tries and holds where it holds nothing yet, and it rests.
 
 impl<S: Standing> DocLock<S> {
     /// Makes one try, never waits and takes no memory. `Busy` exactly where the try read a word other than 0;

@@ -65,3 +65,9 @@ returns-clause-substitute_substitute c = pairs.substitute_substitute
 
 pub returns-clause-substitute_substitute_term : goal.returns-clause-substitute_substitute_term
 returns-clause-substitute_substitute_term c = pairs.substitute_substitute_term
+
+pub returns-clause-substitute_substitute_below : goal.returns-clause-substitute_substitute_below
+returns-clause-substitute_substitute_below c = pairs.substitute_substitute_below
+
+pub returns-clause-substitute_substitute_below_term : goal.returns-clause-substitute_substitute_below_term
+returns-clause-substitute_substitute_below_term c = pairs.substitute_substitute_below_term

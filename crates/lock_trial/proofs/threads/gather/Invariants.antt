@@ -1,12 +1,21 @@
-use Rattle.std.proofs.Common.{◌≡◌, vec_len}
+use Rattle.std.proofs.Common.{◌≡◌, ℕ, vec_len, IfOk}
+use Rattle.doc_lock.specs.Lists.{Each}
 use Rattle.doc_lock.specs.Told.{knows}
-use Rattle.lock_trial.specs.Noting.{IsIdle, AreIdle}
+use Rattle.lock_trial.specs.Noting.{EachWriter, IsDone, IsIdle, notes_by}
 use Rattle.lock_trial.proofs.Joined.{HasFrom}
 use Rattle.lock_trial.proofs.threads.gather.Given as goal
 
-abbrev pub invariant-loop-other : goal.invariant-loop-other
-invariant-loop-other l =
-    record { first : IsIdle l.lock 0 l.seat; idle : AreIdle l.lock l.seats.items; has : HasFrom (vec_len l.seats) (knows l.seat); made : (knows l.seat).made ≡ (knows l.initial.seat).made; origin : (knows l.seat).origin ≡ (knows l.initial.seat).origin }
+abbrev pub invariant-loop-writer : goal.invariant-loop-writer
+invariant-loop-writer l =
+    record {
+      first : IsIdle l.lock 0 l.seat;
+      done : (n : ℕ) → EachWriter (IsDone n l.lock) l.initial.writers.items → EachWriter (IsDone n l.lock) l.writers.items;
+      has : HasFrom (vec_len l.writers) (knows l.seat);
+      made : (knows l.seat).made ≡ (knows l.initial.seat).made;
+      origin : (knows l.seat).origin ≡ (knows l.initial.seat).origin;
+      mine : (knows l.seat).mine ≡ (knows l.initial.seat).mine;
+      written : IfOk l.all (λ _. (n : ℕ) → EachWriter (IsDone n l.lock) l.initial.writers.items → Each (λ p. p.mine ≡ notes_by p.number n) (knows l.seat).joined);
+    }
 
-abbrev pub decreases-loop-other : goal.decreases-loop-other
-decreases-loop-other l = vec_len l.seats
+abbrev pub decreases-loop-writer : goal.decreases-loop-writer
+decreases-loop-writer l = vec_len l.writers

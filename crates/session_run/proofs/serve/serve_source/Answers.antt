@@ -1,4 +1,4 @@
-use Rattle.std.proofs.Common.{◌≡◌, ℕ, ◌+◌, ◌≤◌, false, length, take, refl, sym, ap, ◌∙◌, subst, arith, rules}
+use Rattle.std.proofs.Common.{◌≡◌, ◌+◌, ◌≤◌, false, length, take, refl, sym, ap, ◌∙◌, subst, arith, rules}
 use Rattle.stm_base.specs.Counts.{Rose}
 use Rattle.sexp_theory.specs.Items.{fed}
 use Rattle.session_run.specs.Serving.{IsIdle, IsReading, Served}
@@ -41,7 +41,7 @@ returns-in-pieces-clause-served g c =
       | in-Quit w ↦
           subst is (sym w.stop-is) (served-quit first now _ _ (c.pieces.taken + n) c.pieces.live.entries c.answer_piece.new.live.entries u c.answer_piece.new.reader.unread c.answer_piece.new.live.output reading limit w.in-Quit.ensures.passes same)
       | in-Lost w ↦
-          subst is (sym w.stop-is) (served-lost first now _ _ (c.pieces.taken + n) c.pieces.live.entries c.answer_piece.new.live.entries u c.answer_piece.new.reader.unread w.in-Lost.loss c.answer_piece.new.live.output reading limit w.in-Lost.ensures.passes)
+          subst is (sym w.stop-is) (served-lost first now _ _ (c.pieces.taken + n) c.pieces.live.entries c.answer_piece.new.live.entries u c.answer_piece.new.reader.unread w.in-Lost.loss c.answer_piece.new.live.output reading limit w.in-Lost.ensures.passes same)
     ]
 
 pub returns-clause-served : goal.returns-clause-served

@@ -1,4 +1,4 @@
-use Rattle.std.proofs.Common.{rules, arith}
+use Rattle.std.proofs.Common.{rules}
 use Rattle.stm_base.proofs.Puts.{Appends-more}
 use Rattle.stm_base.proofs.output.write_all.Goals as goal
 

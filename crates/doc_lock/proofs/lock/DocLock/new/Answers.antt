@@ -18,9 +18,12 @@ store-requires g c = let me = c.in-Ok.ensures.4 in (
 
 pub returns : goal.returns
 returns g c = let me = c.in-Ok.ensures.4 in let taken = c.store.ensures.2 in
-    let before : c.store.new.seat.me.0 ≡ taking beginning = ap (λ m. m.0) taken ∙ ap (λ m. taking m.0) me in (
-      refl,
-      search rules,
-      ap (λ m. m.0) c.put_home.ensures.home ∙ (ap (λ (v : View g.row.S-Entry.Denot g.row.S-Origin.Denot). given_back g.S.Standing.list g.S.Standing.author g.S.Standing.origin v c.args.state) before
-          ∙ starts g.S.Standing.list g.S.Standing.author g.S.Standing.origin c.args.state c.requires.empty),
-    )
+    let before : c.store.new.seat.me.0 ≡ taking beginning = ap (λ m. m.0) taken ∙ ap (λ m. taking m.0) me in
+    record {
+      made = (
+        refl,
+        search rules,
+        ap (λ m. m.0) c.put_home.ensures.home ∙ (ap (λ (v : View g.row.S-Entry.Denot g.row.S-Origin.Denot). given_back g.S.Standing.list g.S.Standing.author g.S.Standing.origin v c.args.state) before
+            ∙ starts g.S.Standing.list g.S.Standing.author g.S.Standing.origin c.args.state c.requires.empty),
+      );
+    }

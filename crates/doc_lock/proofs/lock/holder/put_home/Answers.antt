@@ -12,7 +12,7 @@ store-requires g c = let e = c.exchange-empty.ensures.3 in let x : g.row.S.Denot
       search rules,
       search rules,
       publishes g.S.Standing.list g.S.Standing.author g.S.Standing.origin _ _ _ x _ (ap (λ v. v.live) at ∙ c.requires.holds.0) (ap (λ v. v.holds) at ∙ c.requires.holds.1) carried
-          (subst (λ (v : View g.row.S-Entry.Denot g.row.S-Origin.Denot). Adds g.S.Standing.author v.number v.seen (g.S.Standing.list x)) (sym at) c.requires.grown) c.entries-length.ensures,
+          (subst (λ (v : View g.row.S-Entry.Denot g.row.S-Origin.Denot). Adds g.S.Standing.author v.number v.seen (g.S.Standing.list x)) (sym at) c.requires.grown) c.entries-length.ensures.count,
     )
 
 pub store-requires-2 : goal.store-requires-2

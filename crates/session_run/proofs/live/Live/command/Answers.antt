@@ -1,8 +1,8 @@
-use Rattle.std.proofs.Common.{◌≡◌, ◌++◌, arith, ap, sym, subst, ◌∙◌}
+use Rattle.std.proofs.Common.{arith, ap, sym, subst, ◌∙◌}
 use Rattle.stm_base.specs.Output.{IsPut}
 use Rattle.serapi_ans.specs.Lines.{lines_text}
 use Rattle.session_run.specs.Histories.{place, IsNumbered}
-use Rattle.session_run.specs.Plans.{IsPlanned, listed}
+use Rattle.session_run.specs.Plans.{IsPlanned}
 use Rattle.session_run.specs.Serving.{Standing}
 use Rattle.session_run.proofs.Grown.{kept-command}
 use Rattle.session_run.proofs.live.Live.command.Goals as goal
