@@ -2,7 +2,7 @@
 use Rattle.std.proofs.Common.{◌≡◌, ℕ, false, List, [], ◌∷◌, Option, Some, None, Result, refl, sym, ap, subst, ◌∙◌}
 use Rattle.vern_grammar.specs.Trees.{Expression, Shape, plain}
 use Rattle.vern_grammar.specs.Trees as tree
-use Rattle.vern_grammar.specs.Machine.{Frame, parenthesis, argument, governor, outline, link, Phrase, an_expression, whole, chain}
+use Rattle.vern_grammar.specs.Machine.{Frame, parenthesis, argument, governor, outline, link, Phrase, whole, chain}
 use Rattle.vern_parse.specs.declared.raw.RawExpr.{RawExpr}
 use Rattle.vern_parse.specs.declared.raw.Shape.{Shape as Shaped}
 use Rattle.vern_parse.specs.declared.raw.Shape.TheVariants as made

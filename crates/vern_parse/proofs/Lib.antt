@@ -1,5 +1,9 @@
 pub mod Ends
+pub mod Grouped
 pub mod Loops
+pub mod Parsed
 pub mod Places
 pub mod Stacks
+pub mod Steps
 pub mod Trees
+pub mod Walked

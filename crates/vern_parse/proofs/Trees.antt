@@ -1,5 +1,5 @@
 -- What each variant of an expression and of a shape stands for.
-use Rattle.std.proofs.Common.{◌≡◌, ℕ, Bool, true, false, List, [], map, ap, sym, ◌∙◌}
+use Rattle.std.proofs.Common.{◌≡◌, Bool, true, false, map, ap, sym, ◌∙◌}
 use Rattle.std.specs.Prelude.{Vec, Box}
 use Rattle.std.specs.declared.alloc.Global.{Global}
 use Rattle.vern_lex.specs.declared.span.Span.{Span}

@@ -1,5 +1,5 @@
 -- What the Rust values stand for: the data types of the grammar.
-use Rattle.std.specs.Prelude.{ℕ, true, false, List, [], ◌∷◌, map}
+use Rattle.std.specs.Prelude.{true, false, List, map}
 use Rattle.vern_grammar.specs.Trees.{Operator, implication, equivalence, disjunction, conjunction, equation, inequation, Name, Group, Expression, expressions}
 use Rattle.vern_grammar.specs.Trees as tree
 use Rattle.vern_grammar.specs.Kinds as kinds

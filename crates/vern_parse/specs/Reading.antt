@@ -1,11 +1,10 @@
 -- What the functions of the parser answer, seen against the machine and the grammar.
-use Rattle.std.specs.Prelude.{◌≡◌, ℕ, zero, suc, ◌+◌, ◌<◌, ◌≤◌, Bool, true, false, not, ◌&&◌, nat_le, List, [], ◌∷◌, ◌++◌, length, Option, Some, None, Result, Ok, Err}
+use Rattle.std.specs.Prelude.{◌≡◌, ℕ, zero, suc, ◌+◌, ◌≤◌, Bool, true, false, not, ◌&&◌, nat_le, List, [], ◌∷◌, ◌++◌, length, Option, Some, None, Result, Ok, Err}
 use Rattle.vern_lex.specs.declared.token.Token.{Token}
 use Rattle.vern_grammar.specs.Trees as tree
 use Rattle.vern_grammar.specs.Kinds.{Lexeme, lexemes}
 use Rattle.vern_grammar.specs.Levels.{op_level, limit}
-use Rattle.vern_grammar.specs.Grammar.{room, IsExpression, IsShape, IsFault}
-use Rattle.vern_grammar.specs.Grammar as grammar
+use Rattle.vern_grammar.specs.Grammar.{room, IsFault}
 use Rattle.vern_grammar.specs.Machine.{State, at, depth, governor, Phrase, an_expression, a_shape, parsed, Fails, start, run}
 use Rattle.vern_grammar.specs.Machine as machine
 use Rattle.vern_parse.specs.declared.raw.RawExpr.{RawExpr}
@@ -97,3 +96,15 @@ IsFaultOf R sentence tokens fault.NoMemory = Unit {0}
 abbrev pub StopsAt : List machine.Frame → List ℕ → List Token → ParseFault → Type 0
 StopsAt s sentence tokens (fault.At p) = (i : ℕ) × Fails s (lexemes sentence tokens) i × (p ≡ offset sentence tokens i)
 StopsAt s sentence tokens fault.NoMemory = Unit {0}
+
+-- The answer is this tree, or want of memory.
+abbrev pub IsRead : {X Y : Type 0} → (X → Y) → Result X ParseFault → Y → Type 0
+IsRead f (Ok x) t = f x ≡ t
+IsRead f (Err (fault.At p)) t = ⊥
+IsRead f (Err fault.NoMemory) t = Unit {0}
+
+-- The answer is the fault at this offset, or want of memory.
+abbrev pub IsRefused : {X : Type 0} → Result X ParseFault → ℕ → Type 0
+IsRefused (Ok x) p = ⊥
+IsRefused (Err (fault.At q)) p = q ≡ p
+IsRefused (Err fault.NoMemory) p = Unit {0}

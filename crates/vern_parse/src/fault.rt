@@ -27,6 +27,17 @@ impl From<NoMemory> for ParseFault {
     }
 }
 
+impl<T: Drop> From<AllocFailed<T>> for ParseFault {
+    ghost use Rattle.std.specs.Prelude.{◌≡◌};
+    ghost use Rattle.vern_parse.specs.declared.fault.ParseFault.TheVariants.{NoMemory};
+
+    ghost from_gives = { λ _ e. e ≡ NoMemory };
+
+    fn from(_: AllocFailed<T>) -> ParseFault {
+        ParseFault::NoMemory
+    }
+}
+
 /// Why the machine doesn't take a token.
 #[derive(Clone, Copy, Debug)]
 pub enum Stop {

@@ -56,13 +56,21 @@ impl Kind {
     }
 }
 
-/// The bytes of a span.
-fn text(alloc: Global, span: Span, sentence: &[u8]) -> Result<Bytes, NoMemory>
+/// A copy of the bytes of a span.
+pub fn text(alloc: Global, span: Span, sentence: &[u8]) -> Result<Bytes, NoMemory>
     requires ordered { span.from ≤ span.to }
     requires within { span.to ≤ length sentence.now }
     ensures { IfOk result (λ bytes. bytes ≡ slice sentence.now span) }
 {
+    Bytes::from_slice(alloc, bytes_of(span, sentence))
+}
+
+/// The bytes of a span.
+pub fn bytes_of(span: Span, sentence: &[u8]) -> &[u8]
+    requires ordered { span.from ≤ span.to }
+    requires within { span.to ≤ length sentence.now }
+    ensures { result.now ≡ slice sentence.now span }
+{
     let (_, rest) = sentence.split_at(span.from as usize);
-    let (bytes, _) = rest.split_at((span.to - span.from) as usize);
-    Bytes::from_slice(alloc, bytes)
+    rest.split_at((span.to - span.from) as usize).0
 }

@@ -1,27 +1,38 @@
-//! The trees of sentences, and the code that reads expressions and shapes from tokens.
+//! The trees of sentences, and the code that reads them from tokens.
 //!
-//! A tree (`RawExpr`, `Shape`) stands for a value of the data types in vern_grammar, by the functions of
-//! specs/Meaning.antt, and every contract speaks through them: `expression` and `shape` answer the one tree
-//! that the grammar gives to tokens, or the offset of the first token with which the tokens so far begin none.
-//! Inside is the grammar's machine: a mode, a stack of frames, one step for each token. Nothing here knows
-//! declarations or types. `Raw` and its parts are the trees of whole sentences, which nothing makes yet.
+//! A tree (`Raw`, and in it `RawTac`, `Shape`, `RawExpr`) stands for a value of the data types in vern_sentence and
+//! vern_grammar, by the functions of specs/Sentences.antt and specs/Meaning.antt, and every contract speaks through
+//! them. `parse` answers the one tree that the grammar gives to a sentence's tokens, or the offset of the first
+//! token with which the tokens so far begin no sentence; `expression` and `shape` do so for parts of sentences.
+//! Inside, one function for each form goes straight through the tokens, and expressions, shapes and evidence are
+//! read by the grammar's machine: a mode, a stack of frames, one step for each token. Nothing here knows
+//! declarations or types.
 #![tactic(auto)]
 
 mod fault;
 mod frames;
+mod groups;
 mod kind;
 mod levels;
+mod pieces;
 mod raw;
 mod read;
 mod reduce;
+mod refine;
+mod sentence;
+#[cfg(test)]
+mod sentence_tests;
+mod slot;
 mod stack;
 mod step;
 #[cfg(test)]
 mod tests;
+mod words;
 
 pub use fault::ParseFault;
 pub use raw::{
     Closer, Raw, RawExpr, RawExprs, RawGroup, RawGroups, RawName, RawNames, RawOp, RawTac, Shape,
 };
 pub use read::{expression, shape};
+pub use sentence::parse;
 pub use vern_lex::Span;

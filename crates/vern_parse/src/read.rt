@@ -4,7 +4,7 @@ ghost use Rattle.vern_lex.specs.Tokens.{IsTokenOf};
 ghost use Rattle.vern_grammar.specs.Grammar.{IsExpression, IsShape};
 ghost use Rattle.vern_grammar.specs.Kinds.{kind_of, lexemes, slice};
 ghost use Rattle.vern_grammar.specs.Machine.{at, on, outline, result as phrase, run, start};
-ghost use Rattle.vern_parse.specs.Meaning.{expression as expression_of, frames, mode as mode_of, shape as shape_of};
+ghost use Rattle.vern_parse.specs.Meaning.{expression as expression_of, frames, kind as kind_in, mode as mode_of, shape as shape_of};
 ghost use Rattle.vern_parse.specs.Reading.{Bounded, EndsExpression, EndsShape, IsFaultOf, StopsAt, Takes, expression_in, shape_in};
 
 use crate::fault::{ParseFault, Stop};
@@ -82,6 +82,21 @@ fn take_token(
     ensures bounded { IfOk result (λ m. Bounded m stack.new) }
 {
     let kind = Kind::of(alloc, token, sentence)?;
+    take_kind(alloc, mode, stack, kind, token)
+}
+
+/// The state behind a token of a kind.
+pub fn take_kind(
+    alloc: Global,
+    mode: Mode,
+    stack: &mut Stack,
+    kind: Kind,
+    token: Token,
+) -> Result<Mode, ParseFault>
+    requires { Bounded mode stack.old }
+    ensures exact { Takes result stack.new token (on (mode_of mode) (frames stack.old) (kind_in kind) token.span) }
+    ensures bounded { IfOk result (λ m. Bounded m stack.new) }
+{
     match step(alloc, mode, stack, kind, token.span) {
         Ok(next) => Ok(next),
         Err(Stop::Refused) => Err(ParseFault::At(token.span.from)),
@@ -91,7 +106,7 @@ fn take_token(
 
 /// The expression where no token is left.
 #[tactic(auto, using(crate::proofs::Ends::no_expression))]
-fn end_expression(alloc: Global, mode: Mode, stack: &mut Stack) -> Result<RawExpr, Stop>
+pub fn end_expression(alloc: Global, mode: Mode, stack: &mut Stack) -> Result<RawExpr, Stop>
     ensures { EndsExpression result (expression_in (phrase (mode_of mode) (frames stack.old))) }
 {
     match mode {
@@ -104,7 +119,7 @@ fn end_expression(alloc: Global, mode: Mode, stack: &mut Stack) -> Result<RawExp
 }
 
 /// The shape where no token is left.
-fn end_shape(alloc: Global, mode: Mode, stack: &mut Stack) -> Result<Shape, Stop>
+pub fn end_shape(alloc: Global, mode: Mode, stack: &mut Stack) -> Result<Shape, Stop>
     ensures { EndsShape result (shape_in (phrase (mode_of mode) (frames stack.old))) }
 {
     match mode {

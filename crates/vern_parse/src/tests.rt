@@ -2,7 +2,9 @@
 ghost use Rattle.std.specs.Prelude.{All, IfOk};
 ghost use Rattle.vern_lex.specs.Tokens.{IsTokenOf};
 
-use crate::{ParseFault, RawExpr, RawGroup, RawName, RawOp, Shape, Span, expression, shape};
+use crate::{
+    ParseFault, RawExpr, RawGroup, RawGroups, RawName, RawOp, Shape, Span, expression, shape,
+};
 use base_core::NoMemory;
 use std::alloc::{AllocGlobal, Global};
 use std::process::Abort;
@@ -160,7 +162,7 @@ const EXPRESSIONS_4: [(&str, &str); 20] = [
 ];
 
 /// An arrow of the shape itself is written `=>`.
-const SHAPES: [(&str, &str); 18] = [
+const SHAPES: [(&str, &str); 19] = [
     ("Set", "Set[0-3]"),
     ("Prop", "Prop[0-4]"),
     ("T -> Set", "T[0-1] => Set[5-8]"),
@@ -184,6 +186,7 @@ const SHAPES: [(&str, &str); 18] = [
     ("(Set)", "at 1"),
     ("T /\\ Set", "at 5"),
     ("forall x : T, Set", "at 14"),
+    ("~ forall x : T, a -> Prop", "at 21"),
     ("T -> Prop Set", "at 10"),
 ];
 
@@ -203,29 +206,59 @@ const BESIDE: [&str; 6] = ["RRRRRR", "LFRRRR", "LLRRRR", "LLLRRR", "LLLLFF", "LL
 
 /// Openings inside one another: what stands before them, the opening, what stands behind all, and behind each;
 /// how many at most, and the offset of the token that is one too many.
-const OPENINGS: [(&str, &str, &str, &str, usize, u64); 10] = [
+type Opening = (
+    &'static str,
+    &'static str,
+    &'static str,
+    &'static str,
+    usize,
+    u64,
+);
+
+const OPENINGS: [Opening; 7] = [
     ("", "(", "a", ")", 256, 256),
     ("", "f (", "a", ")", 256, 770),
     ("", "~ ", "a", "", 256, 512),
-    ("", "a -> ", "a", "", 256, 1282),
-    ("", "a /\\ (", "a", ")", 128, 770),
-    ("", "a = exists x : T, ", "a", "", 128, 2306),
     ("forall", " x", " : T, a", "", 256, 519),
     ("", "forall x : T, ", "a", "", 256, 3584),
     ("forall", " (x : T)", ", a", "", 255, 2047),
     ("forall (", "x ", ": T), a", "", 255, 518),
 ];
 
-/// So many `~`, and what stands behind them; the offset of the fault, or none.
-const LOOK_AHEAD: [(usize, &str, Option<u64>); 8] = [
-    (255, "forall x : T, a", None),
-    (256, "forall x : T, a", Some(512)),
-    (254, "forall (x : T), a", None),
-    (255, "forall (x : T), a", Some(517)),
-    (254, "exists (x : T) (y : T), a", Some(523)),
-    (253, "exists (x : T) (y : T), a", None),
-    (254, "forall x y z : T, a", Some(519)),
-    (256, "(a)", Some(512)),
+const OPERATOR_OPENINGS: [Opening; 6] = [
+    ("", "a -> ", "a", "", 256, 1282),
+    ("", "a <-> (", "a", ")", 128, 898),
+    ("", "a \\/ ", "a", "", 256, 1282),
+    ("", "a /\\ (", "a", ")", 128, 770),
+    ("", "a = exists x : T, ", "a", "", 128, 2306),
+    ("", "a <> (", "a", ")", 128, 770),
+];
+
+/// An opening, so many times, and what stands behind; the offset of the fault, or none.
+type LookAhead = (&'static str, usize, &'static str, Option<u64>);
+
+const LOOK_AHEAD: [LookAhead; 8] = [
+    ("~ ", 255, "forall x : T, a", None),
+    ("~ ", 256, "forall x : T, a", Some(512)),
+    ("~ ", 254, "forall (x : T), a", None),
+    ("~ ", 255, "forall (x : T), a", Some(517)),
+    ("~ ", 254, "exists (x : T) (y : T), a", Some(523)),
+    ("~ ", 253, "exists (x : T) (y : T), a", None),
+    ("~ ", 254, "forall x y z : T, a", Some(519)),
+    ("~ ", 256, "(a)", Some(512)),
+];
+
+/// An operator as the 255th, 256th and 257th opening.
+const LAST_OPERATOR: [LookAhead; 9] = [
+    ("a -> ", 254, "a <-> b", None),
+    ("a -> ", 255, "a <-> b", None),
+    ("a -> ", 256, "a <-> b", Some(1282)),
+    ("a -> ", 254, "a \\/ b", None),
+    ("a -> ", 255, "a \\/ b", None),
+    ("a -> ", 256, "a \\/ b", Some(1282)),
+    ("a -> ", 254, "a <> b", None),
+    ("a -> ", 255, "a <> b", None),
+    ("a -> ", 256, "a <> b", Some(1282)),
 ];
 
 fn tell_span(text: &mut String, span: Span) -> Result<(), NoMemory> {
@@ -233,14 +266,14 @@ fn tell_span(text: &mut String, span: Span) -> Result<(), NoMemory> {
     Ok(())
 }
 
-fn tell_name(text: &mut String, name: &RawName) -> Result<(), NoMemory> {
+pub fn tell_name(text: &mut String, name: &RawName) -> Result<(), NoMemory> {
     for byte in name.text.as_slice() {
         text.push(char::from(*byte))?;
     }
     tell_span(text, name.span)
 }
 
-fn tell_group(text: &mut String, group: &RawGroup) -> Result<(), NoMemory> {
+pub fn tell_group(text: &mut String, group: &RawGroup) -> Result<(), NoMemory> {
     for name in &group.names {
         text.push_str(" ")?;
         tell_name(text, name)?;
@@ -260,16 +293,27 @@ fn sign(op: RawOp) -> &'static str {
     }
 }
 
-fn tell(text: &mut String, expression: &RawExpr) -> Result<(), NoMemory> {
+/// A piece with its span behind it.
+fn tell_piece(text: &mut String, piece: &str, span: Span) -> Result<(), NoMemory> {
+    text.push_str(piece)?;
+    tell_span(text, span)
+}
+
+/// The names that a quantifier binds, and its word.
+fn tell_binder(text: &mut String, all: bool, groups: &RawGroups) -> Result<(), NoMemory> {
+    text.push_str(if all { "(forall" } else { "(exists" })?;
+    for group in groups {
+        tell_group(text, group)?;
+        text.push_str(",")?;
+    }
+    text.push_str(" ")?;
+    Ok(())
+}
+
+pub fn tell(text: &mut String, expression: &RawExpr) -> Result<(), NoMemory> {
     match expression {
-        RawExpr::True(span) => {
-            text.push_str("True")?;
-            tell_span(text, *span)
-        }
-        RawExpr::False(span) => {
-            text.push_str("False")?;
-            tell_span(text, *span)
-        }
+        RawExpr::True(span) => tell_piece(text, "True", *span),
+        RawExpr::False(span) => tell_piece(text, "False", *span),
         RawExpr::App(name, arguments, span) if arguments.is_empty() && *span == name.span => {
             tell_name(text, name)
         }
@@ -280,47 +324,32 @@ fn tell(text: &mut String, expression: &RawExpr) -> Result<(), NoMemory> {
                 text.push_str(" ")?;
                 tell(text, argument)?;
             }
-            text.push_str(")")?;
-            tell_span(text, *span)
+            tell_piece(text, ")", *span)
         }
         RawExpr::Binary(op, left, right, span) => {
             text.push_str("(")?;
             tell(text, left)?;
             write!(text, " {} ", sign(*op))?;
             tell(text, right)?;
-            text.push_str(")")?;
-            tell_span(text, *span)
+            tell_piece(text, ")", *span)
         }
         RawExpr::Not(operand, span) => {
             text.push_str("(~ ")?;
             tell(text, operand)?;
-            text.push_str(")")?;
-            tell_span(text, *span)
+            tell_piece(text, ")", *span)
         }
         RawExpr::Quant(all, groups, body, span) => {
-            text.push_str(if *all { "(forall" } else { "(exists" })?;
-            for group in groups {
-                tell_group(text, group)?;
-                text.push_str(",")?;
-            }
-            text.push_str(" ")?;
+            tell_binder(text, *all, groups)?;
             tell(text, body)?;
-            text.push_str(")")?;
-            tell_span(text, *span)
+            tell_piece(text, ")", *span)
         }
     }
 }
 
-fn tell_shape(text: &mut String, shape: &Shape) -> Result<(), NoMemory> {
+pub fn tell_shape(text: &mut String, shape: &Shape) -> Result<(), NoMemory> {
     match shape {
-        Shape::Set(span) => {
-            text.push_str("Set")?;
-            tell_span(text, *span)
-        }
-        Shape::Prop(span) => {
-            text.push_str("Prop")?;
-            tell_span(text, *span)
-        }
+        Shape::Set(span) => tell_piece(text, "Set", *span),
+        Shape::Prop(span) => tell_piece(text, "Prop", *span),
         Shape::Arrow(operand, rest) => {
             tell(text, operand)?;
             text.push_str(" => ")?;
@@ -414,22 +443,21 @@ fn fault_of(alloc: Global, sentence: &str) -> Result<Option<u64>, Fail> {
     }
 }
 
-fn repeat(text: &mut String, piece: &str, count: usize) -> Result<(), NoMemory> {
+pub fn repeat(text: &mut String, piece: &str, count: usize) -> Result<(), NoMemory> {
     for _ in 0..count {
         text.push_str(piece)?;
     }
     Ok(())
 }
 
-#[test]
-fn at_most_256_openings_are_open(rt: HostRuntime) -> Result<(), Fail> {
-    for (front, opening, tail, end, most, offset) in OPENINGS {
+fn assert_openings(rt: &(impl Abort + AllocGlobal), rows: &[Opening]) -> Result<(), Fail> {
+    for (front, opening, tail, end, most, offset) in rows {
         for count in [127, 128, 129, 254, 255, 256, 257] {
             let mut sentence = String::from_str(rt.alloc(), front)?;
             repeat(&mut sentence, opening, count)?;
             sentence.push_str(tail)?;
             repeat(&mut sentence, end, count)?;
-            let want = if count > most { Some(offset) } else { None };
+            let want = if count > *most { Some(*offset) } else { None };
             assert_eq!(rt;
                 fault_of(rt.alloc(), sentence.as_str())?,
                 want,
@@ -437,17 +465,33 @@ fn at_most_256_openings_are_open(rt: HostRuntime) -> Result<(), Fail> {
             );
         }
     }
-    for (count, tail, offset) in LOOK_AHEAD {
+    Ok(())
+}
+
+fn assert_look_ahead(rt: &(impl Abort + AllocGlobal), rows: &[LookAhead]) -> Result<(), Fail> {
+    for (opening, count, tail, offset) in rows {
         let mut sentence = String::new(rt.alloc());
-        repeat(&mut sentence, "~ ", count)?;
+        repeat(&mut sentence, opening, *count)?;
         sentence.push_str(tail)?;
         assert_eq!(rt;
             fault_of(rt.alloc(), sentence.as_str())?,
-            offset,
+            *offset,
             "at {count} {tail}"
         );
     }
     Ok(())
+}
+
+#[test]
+fn at_most_256_openings_are_open(rt: HostRuntime) -> Result<(), Fail> {
+    assert_openings(&rt, &OPENINGS)?;
+    assert_look_ahead(&rt, &LOOK_AHEAD)
+}
+
+#[test]
+fn at_most_256_operators_are_open(rt: HostRuntime) -> Result<(), Fail> {
+    assert_openings(&rt, &OPERATOR_OPENINGS)?;
+    assert_look_ahead(&rt, &LAST_OPERATOR)
 }
 
 #[test]
