@@ -335,7 +335,8 @@ const EDITED_COMMANDS: [Fault; 19] = [
     ("Qed ) .", 4),
 ];
 
-const EDITED_WORDS: [Fault; 18] = [
+const EDITED_WORDS: [Fault; 19] = [
+    (" (* a *) ", 9),
     ("assumption", 10),
     ("assumption assumption.", 11),
     ("assumption in h.", 11),
