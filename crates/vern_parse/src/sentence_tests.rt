@@ -313,6 +313,73 @@ const OTHER_FAULTS: [Fault; 20] = [
     ("unfold d in h h.", 14),
 ];
 
+const EDITED_COMMANDS: [Fault; 19] = [
+    ("Axiom : A.", 6),
+    ("Axiom a a : A.", 8),
+    ("Axiom a : [ A.", 10),
+    ("Theorem : A.", 8),
+    ("Theorem t : : A.", 12),
+    ("Theorem t , : A.", 10),
+    ("Definition g : V f x.", 17),
+    ("Definition g : V V := f x.", 17),
+    ("Definition g : ( V := f x.", 15),
+    ("Definition g (x : T) (y : U) z : V := x.", 29),
+    ("Defined", 7),
+    ("Defined Defined.", 8),
+    ("Defined True.", 8),
+    ("Admitted", 8),
+    ("Admitted := .", 9),
+    ("Abort", 5),
+    ("Abort Abort.", 6),
+    ("Abort , .", 6),
+    ("Qed ) .", 4),
+];
+
+const EDITED_WORDS: [Fault; 19] = [
+    (" (* a *) ", 9),
+    ("assumption", 10),
+    ("assumption assumption.", 11),
+    ("assumption in h.", 11),
+    ("exfalso", 7),
+    ("exfalso exfalso.", 8),
+    ("exfalso [ .", 8),
+    ("split ~ .", 6),
+    ("left , .", 5),
+    ("right", 5),
+    ("right right.", 6),
+    ("right | .", 6),
+    ("reflexivity reflexivity.", 12),
+    ("reflexivity = .", 12),
+    ("symmetry", 8),
+    ("symmetry symmetry.", 9),
+    ("symmetry -> .", 9),
+    ("{ {", 0),
+    ("} .", 0),
+];
+
+const EDITED_REFINEMENTS: [Fault; 20] = [
+    ("intro..", 5),
+    ("intro h", 7),
+    ("intro := h.", 6),
+    ("intros..", 6),
+    ("intros a ( b.", 9),
+    ("exact h..", 7),
+    ("apply c", 7),
+    ("apply c..", 7),
+    ("apply c , .", 8),
+    ("exists k ].", 9),
+    ("destruct h..", 10),
+    ("destruct h as [a | , b].", 19),
+    ("clear , h.", 6),
+    ("rewrite q..", 9),
+    ("rewrite -> -> e.", 11),
+    ("rewrite <- .", 11),
+    ("rewrite <- <- e.", 11),
+    ("rewrite <- = e.", 11),
+    ("unfold d d.", 9),
+    ("unfold d in ( h.", 12),
+];
+
 /// A word, and names behind it.
 fn tell_names(text: &mut String, word: &str, names: &[RawName]) -> Result<(), NoMemory> {
     text.push_str(word)?;
@@ -518,6 +585,13 @@ fn longer_refinements_have_their_faults(rt: HostRuntime) -> Result<(), Fail> {
     assert_faults(&rt, &DESTRUCT_FAULTS)?;
     assert_faults(&rt, &ASSERT_FAULTS)?;
     assert_faults(&rt, &OTHER_FAULTS)
+}
+
+#[test]
+fn edited_forms_have_their_faults(rt: HostRuntime) -> Result<(), Fail> {
+    assert_faults(&rt, &EDITED_COMMANDS)?;
+    assert_faults(&rt, &EDITED_WORDS)?;
+    assert_faults(&rt, &EDITED_REFINEMENTS)
 }
 
 /// Openings inside one another in a sentence: what stands before them, the opening, what stands behind all, and

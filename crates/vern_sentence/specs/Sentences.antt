@@ -35,7 +35,7 @@ bullet_at text c = made.bullet (slice_index text c.from) (c.to - c.from)
 
 -- ---- parts
 
--- an expression in parentheses that have no part in it: one opening is open before it
+-- an expression in the parentheses of a form, whose `(` is open before it
 abbrev pub IsInner : List Lexeme → Expression → Type 0
 IsInner ts t = (n : ℕ) × (from : ℕ) × (to : ℕ) × IsOperand n last 1 ts from to t
 
