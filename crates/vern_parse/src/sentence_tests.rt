@@ -11,7 +11,7 @@ use vern_lex::tokens;
 /// A sentence, and its tree or fault.
 type Row = (&'static str, &'static str);
 
-const DECLARATIONS: [Row; 17] = [
+const DECLARATIONS: [Row; 19] = [
     ("Parameter A : Prop.", "declare A[10-11] Prop[14-18]"),
     ("Parameter T : Set.", "declare T[10-11] Set[14-17]"),
     (
@@ -33,6 +33,14 @@ const DECLARATIONS: [Row; 17] = [
     (
         "Axiom b : forall x : T, P x -> Q.",
         "declare b[6-7] (forall x[17-18] : T[21-22], ((P[24-25] x[26-27])[24-27] -> Q[31-32])[24-32])[10-32]",
+    ),
+    (
+        "Axiom a : forall x : T, P x -> P x.",
+        "declare a[6-7] (forall x[17-18] : T[21-22], ((P[24-25] x[26-27])[24-27] -> (P[31-32] x[33-34])[31-34])[24-34])[10-34]",
+    ),
+    (
+        "Axiom w : forall x : T, d15.",
+        "declare w[6-7] (forall x[17-18] : T[21-22], d15[24-27])[10-27]",
     ),
     (
         "Axiom v : forall x y : T, d15.",

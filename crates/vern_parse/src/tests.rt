@@ -249,13 +249,19 @@ const LOOK_AHEAD: [LookAhead; 8] = [
 ];
 
 /// An operator as the 255th, 256th and 257th opening.
-const LAST_OPERATOR: [LookAhead; 9] = [
+const LAST_OPERATOR: [LookAhead; 15] = [
     ("a -> ", 254, "a <-> b", None),
     ("a -> ", 255, "a <-> b", None),
     ("a -> ", 256, "a <-> b", Some(1282)),
     ("a -> ", 254, "a \\/ b", None),
     ("a -> ", 255, "a \\/ b", None),
     ("a -> ", 256, "a \\/ b", Some(1282)),
+    ("a -> ", 254, "a /\\ b", None),
+    ("a -> ", 255, "a /\\ b", None),
+    ("a -> ", 256, "a /\\ b", Some(1282)),
+    ("a -> ", 254, "a = b", None),
+    ("a -> ", 255, "a = b", None),
+    ("a -> ", 256, "a = b", Some(1282)),
     ("a -> ", 254, "a <> b", None),
     ("a -> ", 255, "a <> b", None),
     ("a -> ", 256, "a <> b", Some(1282)),
