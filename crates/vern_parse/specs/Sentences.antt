@@ -120,7 +120,7 @@ sign_of sign.LeftParenthesis = word.opening
 sign_of sign.Prop = word.prop_word
 
 abbrev pub part_slot : Part → slots.Slot
-part_slot part.Formula = slots.expression
+part_slot part.Expression = slots.expression
 part_slot part.Enclosed = slots.enclosed
-part_slot part.Outlined = slots.shape
+part_slot part.Shape = slots.shape
 part_slot part.Evidence = slots.evidence

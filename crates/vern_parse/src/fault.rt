@@ -9,7 +9,7 @@ use thiserror::Error;
 pub enum ParseFault {
     /// The offset of the first token with which the tokens so far begin nothing, or the sentence's length
     /// where all of them begin something and are none.
-    #[error("no sentence has the token at byte {0}")]
+    #[error("syntax error at byte {0}")]
     At(u64),
     /// Memory was wanting.
     #[error("out of memory")]

@@ -13,7 +13,7 @@ ghost use Rattle.vern_parse.specs.Walks.{Gives, no_span, rest, walked};
 use crate::fault::ParseFault;
 use crate::pieces::{end, expect, finish, name_at, names_at, skip};
 use crate::raw::{Raw, RawExpr, RawTac};
-use crate::slot::{enclosed, evidence, formula};
+use crate::slot::{enclosed_at, evidence_at, expression_at};
 use crate::words::{Sign, Tactic};
 use std::alloc::Global;
 use vern_lex::Token;
@@ -59,7 +59,7 @@ pub fn witness(
     requires { All (IsTokenOf sentence.now) tokens.now }
     ensures { Gives sentence_of sentence.now result (walked (following sentence.now no_span word.exists) (rest sentence.now tokens.now at)) }
 {
-    let (value, at) = formula(alloc, tokens, sentence, at)?;
+    let (value, at) = expression_at(alloc, tokens, sentence, at)?;
     finish(tokens, sentence, at, Raw::Refinement(RawTac::Exists(value)))
 }
 
@@ -94,7 +94,7 @@ fn exact(alloc: Global, tokens: &[Token], sentence: &[u8], at: usize) -> Result<
     requires { All (IsTokenOf sentence.now) tokens.now }
     ensures { Gives sentence_of sentence.now result (walked (following sentence.now no_span word.exact) (rest sentence.now tokens.now at)) }
 {
-    let (value, at) = evidence(alloc, tokens, sentence, at)?;
+    let (value, at) = evidence_at(alloc, tokens, sentence, at)?;
     finish(tokens, sentence, at, Raw::Refinement(RawTac::Exact(value)))
 }
 
@@ -103,7 +103,7 @@ fn apply(alloc: Global, tokens: &[Token], sentence: &[u8], at: usize) -> Result<
     requires { All (IsTokenOf sentence.now) tokens.now }
     ensures { Gives sentence_of sentence.now result (walked (following sentence.now no_span word.apply) (rest sentence.now tokens.now at)) }
 {
-    let (value, at) = evidence(alloc, tokens, sentence, at)?;
+    let (value, at) = evidence_at(alloc, tokens, sentence, at)?;
     finish(tokens, sentence, at, Raw::Refinement(RawTac::Apply(value)))
 }
 
@@ -112,7 +112,7 @@ fn destruct(alloc: Global, tokens: &[Token], sentence: &[u8], at: usize) -> Resu
     requires { All (IsTokenOf sentence.now) tokens.now }
     ensures { Gives sentence_of sentence.now result (walked (following sentence.now no_span word.destruct) (rest sentence.now tokens.now at)) }
 {
-    let (value, at) = evidence(alloc, tokens, sentence, at)?;
+    let (value, at) = evidence_at(alloc, tokens, sentence, at)?;
     match skip(tokens, at, Sign::As) {
         Some(at) => destruct_as(alloc, tokens, sentence, value, at),
         None => finish(
@@ -162,7 +162,7 @@ fn assert_name(
     let at = expect(tokens, sentence, at, Sign::LeftParenthesis)?;
     let (name, at) = name_at(alloc, tokens, sentence, at)?;
     let at = expect(tokens, sentence, at, Sign::Colon)?;
-    let (formula, at) = enclosed(alloc, tokens, sentence, at)?;
+    let (formula, at) = enclosed_at(alloc, tokens, sentence, at)?;
     finish(
         tokens,
         sentence,
@@ -205,7 +205,7 @@ fn rewrite_by(
     requires { All (IsTokenOf sentence.now) tokens.now }
     ensures { Gives sentence_of sentence.now result (walked (arguing (λ t. made.rewrite t back)) (rest sentence.now tokens.now at)) }
 {
-    let (value, at) = evidence(alloc, tokens, sentence, at)?;
+    let (value, at) = evidence_at(alloc, tokens, sentence, at)?;
     finish(
         tokens,
         sentence,

@@ -22,7 +22,7 @@ use crate::kind::bytes_of;
 use crate::pieces::{end, expect, fault_at, finish, name_at, own_token, skip};
 use crate::raw::{Closer, Raw, RawGroups, RawName};
 use crate::refine::{refinement_behind, witness};
-use crate::slot::{formula, outlined};
+use crate::slot::{expression_at, shape_at};
 use crate::words::{Command, Sign, command_of, tactic_of};
 use std::alloc::Global;
 use vern_lex::{Span, Token, TokenKind, Tokens, tokens_are_slices};
@@ -141,7 +141,7 @@ fn declaration(
 {
     let (name, at) = name_at(alloc, tokens, sentence, at)?;
     let at = expect(tokens, sentence, at, Sign::Colon)?;
-    let (shape, at) = outlined(alloc, tokens, sentence, at)?;
+    let (shape, at) = shape_at(alloc, tokens, sentence, at)?;
     finish(tokens, sentence, at, Raw::Declare(name, shape))
 }
 
@@ -179,7 +179,7 @@ fn defined(
     ensures { Gives sentence_of sentence.now result (walked (defining (name_of name) (groups_of groups) (maybe_name sort)) (rest sentence.now tokens.now at)) }
 {
     let at = expect(tokens, sentence, at, Sign::Define)?;
-    let (body, at) = formula(alloc, tokens, sentence, at)?;
+    let (body, at) = expression_at(alloc, tokens, sentence, at)?;
     finish(tokens, sentence, at, Raw::Define(name, groups, sort, body))
 }
 
@@ -190,6 +190,6 @@ fn beginning(alloc: Global, tokens: &[Token], sentence: &[u8], at: usize) -> Res
 {
     let (name, at) = name_at(alloc, tokens, sentence, at)?;
     let at = expect(tokens, sentence, at, Sign::Colon)?;
-    let (formula, at) = formula(alloc, tokens, sentence, at)?;
+    let (formula, at) = expression_at(alloc, tokens, sentence, at)?;
     finish(tokens, sentence, at, Raw::Begin(name, formula))
 }

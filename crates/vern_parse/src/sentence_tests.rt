@@ -602,8 +602,9 @@ fn edited_forms_have_their_faults(rt: HostRuntime) -> Result<(), Fail> {
     assert_faults(&rt, &EDITED_REFINEMENTS)
 }
 
-/// Openings inside one another in a sentence: what stands before them, the opening, what stands behind all, and
-/// behind each, and behind those; how many at most, and the offset of the token that is one too many.
+/// Openings inside one another in a sentence: what stands before them, the opening, what stands inside all of
+/// them, what closes each, and what stands behind; how many there may be, and the offset of the token that is one
+/// too many.
 type Limit = (
     &'static str,
     &'static str,

@@ -22,14 +22,14 @@ use vern_lex::Token;
 /// evidence.
 #[derive(Clone, Copy, Debug, PartialEq, Eq)]
 pub enum Part {
-    Formula,
+    Expression,
     Enclosed,
-    Outlined,
+    Shape,
     Evidence,
 }
 
 /// An expression from a token on, and the number of the token behind it.
-pub fn formula(
+pub fn expression_at(
     alloc: Global,
     tokens: &[Token],
     sentence: &[u8],
@@ -39,7 +39,7 @@ pub fn formula(
     ensures { Gives (with_rest expression_of sentence.now tokens.now) sentence.now result (part expression_slot (rest sentence.now tokens.now at)) }
 {
     let mut stack = Stack::new(alloc);
-    let (mode, end) = read_part(alloc, tokens, sentence, at, Part::Formula, &mut stack)?;
+    let (mode, end) = read_part(alloc, tokens, sentence, at, Part::Expression, &mut stack)?;
     match end_expression(alloc, mode, &mut stack) {
         Ok(found) => Ok((found, end)),
         Err(Stop::Refused) => Err(fault_at(tokens, sentence, end)),
@@ -48,7 +48,7 @@ pub fn formula(
 }
 
 /// Evidence: a name with arguments, each a name or evidence in parentheses.
-pub fn evidence(
+pub fn evidence_at(
     alloc: Global,
     tokens: &[Token],
     sentence: &[u8],
@@ -67,7 +67,7 @@ pub fn evidence(
 }
 
 /// An expression behind a `(`, with its `)`.
-pub fn enclosed(
+pub fn enclosed_at(
     alloc: Global,
     tokens: &[Token],
     sentence: &[u8],
@@ -86,7 +86,7 @@ pub fn enclosed(
 }
 
 /// A shape from a token on, and the number of the token behind it.
-pub fn outlined(
+pub fn shape_at(
     alloc: Global,
     tokens: &[Token],
     sentence: &[u8],
@@ -97,7 +97,7 @@ pub fn outlined(
 {
     let mut stack = Stack::new(alloc);
     stack.push(Frame::Outline)?;
-    let (mode, end) = read_part(alloc, tokens, sentence, at, Part::Outlined, &mut stack)?;
+    let (mode, end) = read_part(alloc, tokens, sentence, at, Part::Shape, &mut stack)?;
     match end_shape(alloc, mode, &mut stack) {
         Ok(found) => Ok((found, end)),
         Err(Stop::Refused) => Err(fault_at(tokens, sentence, end)),
@@ -137,6 +137,6 @@ fn stops(part: Part, kind: &Kind, stack: &Stack) -> bool
     match part {
         Part::Enclosed => stack.first().is_none(),
         Part::Evidence => !matches!(kind, Kind::Name(_) | Kind::Opening | Kind::Closing),
-        Part::Formula | Part::Outlined => matches!(kind, Kind::Other(_)),
+        Part::Expression | Part::Shape => matches!(kind, Kind::Other(_)),
     }
 }
