@@ -4,8 +4,8 @@
 //! they can, they tell their bytes to contracts: those left in a source, those written to a sink. `MemSource`
 //! and `MemSink` tell them, `StdSource` and `StdSink` are standard input and output and tell none, and
 //! `SureSource` and `SureSink` never fail. `Out` writes whole pieces to a sink until the sink first fails. There
-//! is nothing here of what the bytes mean. The crates above use the clauses of the two traits, and that `put`
-//! leaves the Out with the piece put, `IsPut`.
+//! is nothing here of what the bytes mean, but that a byte 10 ends a line of output. The crates above use the
+//! clauses of the two traits, and that `put` leaves the Out with the piece put, `IsPut`.
 #![tactic(auto)]
 
 mod memory;

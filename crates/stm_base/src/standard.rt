@@ -1,7 +1,8 @@
 //! Standard input and standard output: the edge that is trusted to give and to take the real bytes.
-ghost use Rattle.std.specs.Prelude.{◌≡◌, ◌<◌, ◌≤◌, [], length, take, Some, None, IfOk, OnErr};
+ghost use Rattle.std.specs.Prelude.{◌≡◌, ◌≢◌, ◌<◌, ◌≤◌, [], length, take, Some, None, IfOk, OnErr, OnOk};
 ghost use Rattle.std.specs.Io.{WritesAtMost};
-ghost use Rattle.std.specs.Io.Buffered.{writer_buffer};
+ghost use Rattle.std.specs.Io.Buffered.{writer_buffer, writer_contents};
+ghost use Rattle.std.specs.Io.KnownBytes.{Appends};
 ghost use Rattle.stm_base.specs.Counts.{HasCause};
 ghost use Rattle.stm_base.specs.Standard.{gathered, EndsLine};
 
@@ -42,10 +43,11 @@ impl Source for StdSource {
     }
 }
 
-/// Standard output. It tells no bytes. Each error of the system is a fault, but an interrupted write, which is
-/// tried again; so is a write that takes nothing of a piece that isn't empty. The pieces of a line are gathered,
-/// and go out whole with the piece that ends the line; so nothing that was answered waits in here while input is
-/// read. At a fault what was gathered is let go, and each later write is a fault.
+/// Standard output. It tells no bytes. An interrupted write is tried again; each other error of the system is a
+/// fault, and so is a write that takes nothing of a piece that isn't empty. The pieces of a line are gathered, and
+/// go out with the piece that ends the line, whole where the line has less than 8,192 bytes; so nothing that was
+/// answered waits in here while input is read. At a fault what was gathered is let go, and each later write is a
+/// fault.
 #[derive(Drop)]
 pub struct StdSink {
     stdout: Option<BufWriter<Stdout>>,
@@ -78,8 +80,9 @@ impl StdSink {
 }
 
 /// Gathers the front of a piece, and sends out what was gathered where that ends a line.
-fn gather(stdout: &mut BufWriter<Stdout>, bytes: &[u8]) -> io::Result<usize>
+fn gather<W: Write + Drop>(stdout: &mut BufWriter<W>, bytes: &[u8]) -> io::Result<usize>
     ensures bound { IfOk result (λ n. n ≤ length bytes.now) }
+    ensures bytes { IfOk result (λ n. Appends (writer_contents W.contents stdout.old) (writer_contents W.contents stdout.new) (take n bytes.now)) }
     ensures sent { IfOk result (λ n. EndsLine (take n bytes.now) → writer_buffer stdout.new ≡ []) }
 {
     let count = stdout.write(bytes)?;
@@ -100,6 +103,7 @@ impl Sink for StdSink {
         ensures cause { HasCause self.old.faults self.new.faults result }
         ensures sent { IfOk result (λ n. EndsLine (take n bytes.now) → gathered self.new ≡ Some []) }
         ensures closed { OnErr result (gathered self.new ≡ None) }
+        ensures shut { OnOk result (gathered self.old ≢ None) }
     {
         if let Some(stdout) = &mut self.stdout {
             match gather(stdout, bytes) {
