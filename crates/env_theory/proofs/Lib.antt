@@ -21,3 +21,5 @@ pub mod Projections
 pub mod Members
 pub mod Again
 pub mod Lawfuls
+pub mod HeadLaws
+pub mod Thinning
