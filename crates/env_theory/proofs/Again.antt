@@ -1,9 +1,9 @@
 -- Definitions put in again: what was put in before changes no normal form.
 use Rattle.std.proofs.Common.{◌≡◌, ℕ, Bool, true, false, List, [], ◌∷◌, refl, sym, ap, subst, ◌∙◌, inl, inr, if◌then◌else◌, ◌==◌, None}
 use Rattle.std.proofs.Math.Path.{fun_ext}
-use Rattle.fol_theory.specs.Syntax.{Term, var, app, Terms, nil, cons, Formula, truth, falsity, pred, equal, both, either, implies, all, ex}
+use Rattle.fol_theory.specs.Syntax.{Term, var, app, Terms, nil, cons, Formula, truth, falsity, pred, equal, both, either, implies, all, ex, is_name}
 use Rattle.fol_theory.specs.Substitution.{replace_term, replace}
-use Rattle.env_theory.specs.Declarations.{Declaration, sort, function, predicate, stated, term, formula, name_of, is_name, find, bound}
+use Rattle.env_theory.specs.Declarations.{Declaration, sort, function, predicate, stated, term, formula, name_of, find, bound}
 use Rattle.env_theory.specs.Typing.{Declares, Environment}
 use Rattle.env_theory.specs.Normal.{many, argument, unfold_term, unfold_terms, unfold_function, unfold_predicate, expand_term, expand, normal}
 use Rattle.env_theory.specs.Heads.{expand_head, head_form}

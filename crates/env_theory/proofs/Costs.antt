@@ -2,8 +2,8 @@
 use Rattle.std.proofs.Common.{◌≡◌, ℕ, zero, suc, ◌+◌, ◌<◌, Bool, true, false, List, [], ◌∷◌, refl, sym, ap, subst, ◌∙◌, if◌then◌else◌, ◌==◌, Option, Some, None, arith}
 use Rattle.std.proofs.lemmas.Bool.Decides.{nat_tests}
 use Rattle.std.proofs.Math.Path.{fun_ext}
-use Rattle.fol_theory.specs.Syntax.{Term, var, app, Terms, nil, cons}
-use Rattle.env_theory.specs.Declarations.{Parameter, Declaration, sort, function, predicate, stated, term, formula, name_of, is_name, find, bound}
+use Rattle.fol_theory.specs.Syntax.{Term, var, app, Terms, nil, cons, is_name}
+use Rattle.env_theory.specs.Declarations.{Parameter, Declaration, sort, function, predicate, stated, term, formula, name_of, find, bound}
 use Rattle.env_theory.specs.Typing.{HasSort, HaveSorts, takes, Gives, Declares, Environment}
 use Rattle.env_theory.specs.Normal.{many, argument}
 use Rattle.env_theory.specs.Scopes.{Scope, body, under, CostRow, cost_row, cost_headed, cost, costs, cost_argument, cost_table, scope_cost}

@@ -1,10 +1,10 @@
 -- The count of a normal form is the count over the table of its environment.
 use Rattle.std.proofs.Common.{◌≡◌, ℕ, zero, suc, ◌+◌, ◌≤◌, max, Bool, true, false, List, [], ◌∷◌, length, refl, sym, ap, subst, ◌∙◌, if◌then◌else◌, Some}
 use Rattle.std.proofs.Math.Path.{fun_ext}
-use Rattle.fol_theory.specs.Syntax.{Term, var, app, Terms, nil, cons, Formula, truth, falsity, pred, equal, both, either, implies, all, ex}
+use Rattle.fol_theory.specs.Syntax.{Term, var, app, Terms, nil, cons, Formula, truth, falsity, pred, equal, both, either, implies, all, ex, is_name}
 use Rattle.fol_theory.specs.Substitution.{replace_term, replace_terms, replace, next, lift}
 use Rattle.fol_theory.specs.Measures.{term_reach, term_nodes, terms_nodes, nodes, term_height, terms_height, height}
-use Rattle.env_theory.specs.Declarations.{Parameter, Declaration, sort, function, predicate, stated, term, formula, is_name, find, bound}
+use Rattle.env_theory.specs.Declarations.{Parameter, Declaration, sort, function, predicate, stated, term, formula, find, bound}
 use Rattle.env_theory.specs.Typing.{HasSort, HaveSorts, WellFormed, takes, Environment, Put, Puts}
 use Rattle.env_theory.specs.Normal.{many, argument, unfold_term, unfold_terms, unfold_function, unfold_predicate, expand_term, expand, normal_term, normal}
 use Rattle.env_theory.specs.Count.{Scale, by_nodes, by_height, Row, Table, no_rows, row, node, bind, headed, count_term, count_terms, spread, count, nothing, only, each, term_row, formula_row, add_row, table}
@@ -146,7 +146,7 @@ module _ (S : Scale) where
     row_formula F (term n ps r b) p T e w V a h = function_formula F n ps r b p T.functions T.predicates e w V a h
     row_formula F (formula n ps b) p T e w V a h = predicate_formula F n ps b p T e w V a h
 
-    rows_term : (F E : List Declaration) → Puts F E → (e : ℕ) (w : ℕ → ℕ) (V : List (List ℕ)) (t : Term) (s : List ℕ) → HasSort F V t s →
+    pub rows_term : (F E : List Declaration) → Puts F E → (e : ℕ) (w : ℕ → ℕ) (V : List (List ℕ)) (t : Term) (s : List ℕ) → HasSort F V t s →
         count_term S (Table.functions (table S E)) e w t ≡ count_term S [] e w (normal_term E t)
     rows_term F [] p e w V t s h = refl
     rows_term F (d ∷ E) p e w V t s h = row_term F d p.0 (table S E) e w V t s h ∙ rows_term F E p.1 e w V (expand_term d t) s (expand_sort F d p.0 V t s h)

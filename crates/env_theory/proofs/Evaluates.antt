@@ -1,8 +1,8 @@
 -- The normal form of an application, from the normal forms of its arguments and of its definition's body.
 use Rattle.std.proofs.Common.{◌≡◌, ℕ, zero, suc, ◌<◌, Bool, true, false, List, [], ◌∷◌, length, refl, sym, ap, subst, ◌∙◌, ◌⊎◌, inl, inr, if◌then◌else◌, Some, None, arith}
-use Rattle.fol_theory.specs.Syntax.{Term, app, Terms, nil, cons, Formula, pred}
+use Rattle.fol_theory.specs.Syntax.{Term, app, Terms, nil, cons, Formula, pred, is_name}
 use Rattle.fol_theory.specs.Substitution.{replace_term, replace}
-use Rattle.env_theory.specs.Declarations.{Parameter, Declaration, sort, function, predicate, stated, term, formula, name_of, is_name, find, sorts_of, bound}
+use Rattle.env_theory.specs.Declarations.{Parameter, Declaration, sort, function, predicate, stated, term, formula, name_of, find, sorts_of, bound}
 use Rattle.env_theory.specs.Typing.{HasSort, HaveSorts, WellFormed, Declares, Environment, Put, Puts}
 use Rattle.env_theory.specs.Normal.{many, argument, unfold_term, unfold_terms, unfold_predicate, expand_term, expand_terms, expand, normal_term, normal_terms, normal}
 use Rattle.env_theory.proofs.SameNames.{one_name}

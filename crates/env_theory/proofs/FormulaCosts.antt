@@ -1,8 +1,8 @@
 -- Each step on formulas leaves fewer steps.
 use Rattle.std.proofs.Common.{◌≡◌, ℕ, zero, suc, ◌+◌, ◌<◌, Bool, true, false, List, [], ◌∷◌, refl, sym, ap, subst, ◌∙◌, if◌then◌else◌, Option, Some, None, arith}
 use Rattle.std.proofs.Math.Path.{fun_ext}
-use Rattle.fol_theory.specs.Syntax.{Terms, Formula, truth, falsity, pred, equal, both, either, implies, all, ex}
-use Rattle.env_theory.specs.Declarations.{Parameter, Declaration, sort, function, predicate, stated, term, formula, name_of, is_name, find, bound}
+use Rattle.fol_theory.specs.Syntax.{Terms, Formula, truth, falsity, pred, equal, both, either, implies, all, ex, is_name}
+use Rattle.env_theory.specs.Declarations.{Parameter, Declaration, sort, function, predicate, stated, term, formula, name_of, find, bound}
 use Rattle.env_theory.specs.Typing.{WellFormed, takes, IsPredicate, Declares, Environment}
 use Rattle.env_theory.specs.Scopes.{Scope, body, under, CostRow, cost_row, cost, costs, cost_argument, cost_table, scope_cost}
 use Rattle.env_theory.specs.Machine.{lefts, bind_steps, cost_applied, formula_cost, formula_table, formula_left}

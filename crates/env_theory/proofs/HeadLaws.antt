@@ -1,13 +1,13 @@
 -- Head forms: substitution goes through, a definition's head form is that of its body, and no defined predicate is left at the head.
 use Rattle.std.proofs.Common.{◌≡◌, ℕ, Bool, true, false, List, [], ◌∷◌, refl, sym, ap, subst, ◌∙◌, if◌then◌else◌, Option, Some, None}
-use Rattle.fol_theory.specs.Syntax.{Term, Terms, Formula, truth, falsity, pred, equal, both, either, implies, all, ex}
+use Rattle.fol_theory.specs.Syntax.{Term, Terms, Formula, truth, falsity, pred, equal, both, either, implies, all, ex, is_name}
 use Rattle.fol_theory.specs.Substitution.{replace_terms, replace}
 use Rattle.fol_theory.proofs.Laws.{replace_twice}
-use Rattle.env_theory.specs.Declarations.{Parameter, Declaration, sort, function, predicate, stated, term, formula, name_of, is_name, find, bound}
+use Rattle.env_theory.specs.Declarations.{Parameter, Declaration, sort, function, predicate, stated, term, formula, name_of, find, bound}
 use Rattle.env_theory.specs.Typing.{WellFormed, IsPredicate, Declares, Environment}
 use Rattle.env_theory.specs.Normal.{argument}
 use Rattle.env_theory.specs.Machine.{formula_body}
-use Rattle.env_theory.specs.Heads.{expand_head, head_form}
+use Rattle.env_theory.specs.Heads.{expand_head, head_form, IsNoPredicate}
 use Rattle.env_theory.proofs.SameNames.{one_name, own_name}
 use Rattle.env_theory.proofs.Normals.{arguments_replace}
 use Rattle.env_theory.proofs.Keeps.{not_found}
@@ -72,18 +72,6 @@ head_skips (term n ps s b) E new V a h = refl
 head_unknown : (E : List Declaration) (p : List ℕ) → find E p ≡ None → (ts : Terms) → head_form E (pred p ts) ≡ pred p ts
 head_unknown [] p h ts = refl
 head_unknown (d ∷ E) p h ts = let parts = not_found d E p h in ap (head_form E) (expand_head_other d p ts parts.0) ∙ head_unknown E p parts.1 ts
-
--- what isn't a predicate
-abbrev pub IsNoPredicate : Formula → Type 0
-IsNoPredicate truth = Unit {0}
-IsNoPredicate falsity = Unit {0}
-IsNoPredicate (pred p ts) = ⊥
-IsNoPredicate (equal s t u) = Unit {0}
-IsNoPredicate (both a b) = Unit {0}
-IsNoPredicate (either a b) = Unit {0}
-IsNoPredicate (implies a b) = Unit {0}
-IsNoPredicate (all s x a) = Unit {0}
-IsNoPredicate (ex s x a) = Unit {0}
 
 expand_head_stays : (d : Declaration) (a : Formula) → IsNoPredicate a → expand_head d a ≡ a
 expand_head_stays (formula n ps b) truth h = refl

@@ -1,13 +1,13 @@
 -- Putting definitions in keeps sorts.
 use Rattle.std.proofs.Common.{◌≡◌, ℕ, Bool, true, false, List, [], ◌∷◌, ◌++◌, refl, sym, ap, subst, ◌∙◌, if◌then◌else◌, Option, Some, None}
-use Rattle.fol_theory.specs.Syntax.{Term, var, app, Terms, nil, cons, Formula, truth, falsity, pred, equal, both, either, implies, all, ex}
+use Rattle.fol_theory.specs.Syntax.{Term, var, app, Terms, nil, cons, Formula, truth, falsity, pred, equal, both, either, implies, all, ex, is_name}
 use Rattle.fol_theory.specs.Substitution.{replace_term, replace}
-use Rattle.env_theory.specs.Declarations.{Parameter, Declaration, sort, function, predicate, stated, term, formula, name_of, is_name, find, sorts_of, bound}
-use Rattle.env_theory.specs.Typing.{HasSort, HaveSorts, WellFormed, takes, Gives, IsSort, IsPredicate, Environment, Put, Puts, undefined}
+use Rattle.env_theory.specs.Declarations.{Parameter, Declaration, sort, function, predicate, stated, term, formula, name_of, find, sorts_of, bound}
+use Rattle.env_theory.specs.Typing.{HasSort, HaveSorts, WellFormed, takes, Gives, IsSort, IsPredicate, Environment, Put, Puts, undefined, Extends}
 use Rattle.env_theory.specs.Normal.{argument, unfold_term, unfold_terms, unfold_function, unfold_predicate, expand_term, expand_terms, expand, normal_term, normal}
 use Rattle.env_theory.proofs.SameNames.{one_name, own_name}
 use Rattle.env_theory.proofs.Sorts.{replace_sort, replace_formed, arguments_fit}
-use Rattle.env_theory.proofs.Weaker.{Extends, has_sort, well_formed, puts}
+use Rattle.env_theory.proofs.Weaker.{has_sort, well_formed, puts}
 
 -- F and G declare the same, but that d is the one with its name in F
 abbrev pub Less : List Declaration → Declaration → List Declaration → Type 0

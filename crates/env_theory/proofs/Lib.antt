@@ -23,3 +23,4 @@ pub mod Again
 pub mod Lawfuls
 pub mod HeadLaws
 pub mod Thinning
+pub mod Summaries

@@ -1,6 +1,7 @@
 -- Declarations of an environment, found by name and as members of the list.
 use Rattle.std.proofs.Common.{◌≡◌, ℕ, Bool, true, false, List, [], ◌∷◌, refl, sym, ap, subst, ◌∙◌, inl, inr, if◌then◌else◌, Option, Some, None}
-use Rattle.env_theory.specs.Declarations.{Declaration, name_of, is_name, find}
+use Rattle.fol_theory.specs.Syntax.{is_name}
+use Rattle.env_theory.specs.Declarations.{Declaration, name_of, find}
 use Rattle.env_theory.specs.Typing.{Environment}
 use Rattle.env_theory.specs.Orders.{Member}
 use Rattle.env_theory.proofs.SameNames.{one_name, own_name}

@@ -1,10 +1,10 @@
 -- Putting a definition in, and substitution.
 use Rattle.std.proofs.Common.{◌≡◌, ℕ, zero, suc, ◌+◌, Bool, true, false, List, [], ◌∷◌, refl, sym, ap, ◌∙◌, if◌then◌else◌, ◌==◌, nat_lt}
 use Rattle.std.proofs.Math.Path.{fun_ext}
-use Rattle.fol_theory.specs.Syntax.{Term, var, app, Terms, nil, cons, Formula, truth, falsity, pred, equal, both, either, implies, all, ex}
+use Rattle.fol_theory.specs.Syntax.{Term, var, app, Terms, nil, cons, Formula, truth, falsity, pred, equal, both, either, implies, all, ex, is_name}
 use Rattle.fol_theory.specs.Substitution.{replace_term, replace_terms, replace, next, lift, raise, shift}
 use Rattle.fol_theory.proofs.Laws.{term_twice, replace_twice}
-use Rattle.env_theory.specs.Declarations.{Declaration, sort, function, predicate, stated, term, formula, is_name}
+use Rattle.env_theory.specs.Declarations.{Declaration, sort, function, predicate, stated, term, formula}
 use Rattle.env_theory.specs.Normal.{many, argument, unfold_term, unfold_terms, unfold_function, unfold_predicate, expand_term, expand, normal_term, normal}
 
 pub many_replace : (σ : ℕ → Term) (ts : Terms) → many (replace_terms σ ts) ≡ many ts

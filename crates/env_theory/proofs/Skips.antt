@@ -1,13 +1,13 @@
 -- A declaration that isn't named changes nothing, and substitutions that agree where there are variables.
 use Rattle.std.proofs.Common.{◌≡◌, ℕ, zero, suc, Bool, true, false, List, [], ◌∷◌, ◌++◌, refl, sym, ap, subst, ◌∙◌, if◌then◌else◌, Option, None}
-use Rattle.fol_theory.specs.Syntax.{Term, var, app, Terms, nil, cons, Formula, truth, falsity, pred, equal, both, either, implies, all, ex}
+use Rattle.fol_theory.specs.Syntax.{Term, var, app, Terms, nil, cons, Formula, truth, falsity, pred, equal, both, either, implies, all, ex, is_name}
 use Rattle.fol_theory.specs.Substitution.{replace_term, replace_terms, replace, next, lift}
 use Rattle.fol_theory.proofs.Laws.{replace_identity}
-use Rattle.env_theory.specs.Declarations.{Declaration, sort, function, predicate, stated, term, formula, name_of, is_name, find}
-use Rattle.env_theory.specs.Typing.{At, HasSort, HaveSorts, WellFormed, takes, Gives, IsPredicate, Environment}
+use Rattle.env_theory.specs.Declarations.{Declaration, sort, function, predicate, stated, term, formula, name_of, find}
+use Rattle.env_theory.specs.Typing.{At, HasSort, HaveSorts, WellFormed, takes, Gives, IsPredicate, Environment, Extends}
 use Rattle.env_theory.specs.Normal.{argument, unfold_term, unfold_terms, unfold_function, unfold_predicate, expand_term, expand, normal_term, normal}
 use Rattle.env_theory.proofs.SameNames.{one_name}
-use Rattle.env_theory.proofs.Weaker.{Extends, longer, has_sort, well_formed}
+use Rattle.env_theory.proofs.Weaker.{longer, has_sort, well_formed}
 
 -- a name that is found is another than one that isn't
 pub differs : (E : List Declaration) (n f : List ℕ) → find E n ≡ None → (P : Option Declaration → Type 0) → (P None → ⊥) → P (find E f) → is_name n f ≡ false

@@ -1,8 +1,8 @@
 -- Without some Stated declarations normal forms are the same, and what is typed or well formed is so.
 use Rattle.std.proofs.Common.{◌≡◌, ℕ, Bool, true, false, List, [], ◌∷◌, refl, sym, ap, subst, ◌∙◌, if◌then◌else◌, Option, Some, None}
-use Rattle.fol_theory.specs.Syntax.{Term, var, app, Terms, nil, cons, Formula, truth, falsity, pred, equal, both, either, implies, all, ex}
+use Rattle.fol_theory.specs.Syntax.{Term, var, app, Terms, nil, cons, Formula, truth, falsity, pred, equal, both, either, implies, all, ex, is_name}
 use Rattle.fol_theory.specs.Printing.{unnamed}
-use Rattle.env_theory.specs.Declarations.{Declaration, sort, function, predicate, stated, term, formula, name_of, is_name, find, sorts_of, bound}
+use Rattle.env_theory.specs.Declarations.{Declaration, sort, function, predicate, stated, term, formula, name_of, find, sorts_of, bound}
 use Rattle.env_theory.specs.Typing.{HasSort, HaveSorts, WellFormed, takes, Gives, IsSort, IsPredicate, AreSorts, Declares, Environment}
 use Rattle.env_theory.specs.Normal.{expand, normal, Same}
 use Rattle.env_theory.specs.Orders.{AreNamed, InOrder}

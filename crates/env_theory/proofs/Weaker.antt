@@ -1,13 +1,9 @@
 -- What an environment declares stays declared when it grows.
 use Rattle.std.proofs.Common.{◌≡◌, ℕ, Bool, true, false, List, [], ◌∷◌, refl, sym, ap, subst, if◌then◌else◌, Option, Some, None}
-use Rattle.fol_theory.specs.Syntax.{Term, var, app, Terms, nil, cons, Formula, truth, falsity, pred, equal, both, either, implies, all, ex}
-use Rattle.env_theory.specs.Declarations.{Declaration, sort, function, predicate, stated, term, formula, name_of, is_name, find, bound}
-use Rattle.env_theory.specs.Typing.{HasSort, HaveSorts, WellFormed, takes, Gives, IsSort, IsPredicate, Declares, Environment, Put, Puts}
+use Rattle.fol_theory.specs.Syntax.{Term, var, app, Terms, nil, cons, Formula, truth, falsity, pred, equal, both, either, implies, all, ex, is_name}
+use Rattle.env_theory.specs.Declarations.{Declaration, sort, function, predicate, stated, term, formula, name_of, find, bound}
+use Rattle.env_theory.specs.Typing.{Extends, HasSort, HaveSorts, WellFormed, takes, Gives, IsSort, IsPredicate, Declares, Environment, Put, Puts}
 use Rattle.env_theory.proofs.SameNames.{one_name, own_name}
-
--- F has all declarations of E
-abbrev pub Extends : List Declaration → List Declaration → Type 0
-Extends E F = (n : List ℕ) (d : Declaration) → find E n ≡ Some d → find F n ≡ Some d
 
 abbrev Known : Option Declaration → Type 0
 Known None = ⊥
