@@ -8,7 +8,7 @@ use Rattle.env_theory.specs.Typing.{Declares, Environment}
 use Rattle.env_theory.specs.Normal.{many, argument, unfold_term, unfold_terms, unfold_function, unfold_predicate, expand_term, expand, normal}
 use Rattle.env_theory.specs.Heads.{expand_head, head_form}
 use Rattle.env_theory.specs.Orders.{Member, AreNamed, InOrder}
-use Rattle.env_theory.proofs.SameNames.{one_name, own_name}
+use Rattle.env_theory.proofs.SameNames.{one_name}
 use Rattle.env_theory.proofs.Normals.{many_unfold, unfold_term_replace, unfold_function_replace, unfold_predicate_replace}
 use Rattle.env_theory.proofs.Keeps.{not_found}
 use Rattle.env_theory.proofs.Members.{member_other}

@@ -1,5 +1,5 @@
 -- Head forms: substitution goes through, a definition's head form is that of its body, and no defined predicate is left at the head.
-use Rattle.std.proofs.Common.{◌≡◌, ℕ, Bool, true, false, List, [], ◌∷◌, refl, sym, ap, subst, ◌∙◌, if◌then◌else◌, Option, Some, None}
+use Rattle.std.proofs.Common.{◌≡◌, ℕ, Bool, true, false, List, [], ◌∷◌, refl, sym, ap, subst, ◌∙◌, if◌then◌else◌, Some, None}
 use Rattle.fol_theory.specs.Syntax.{Term, Terms, Formula, truth, falsity, pred, equal, both, either, implies, all, ex, is_name}
 use Rattle.fol_theory.specs.Substitution.{replace_terms, replace}
 use Rattle.fol_theory.proofs.Laws.{replace_twice}

@@ -1,8 +1,8 @@
 -- What the crates above use of an environment holds of each that is in order.
-use Rattle.std.proofs.Common.{◌≡◌, ℕ, List, [], ◌∷◌, refl, sym, ap, Some}
-use Rattle.fol_theory.specs.Syntax.{Formula, truth, falsity, pred, equal, both, either, implies, all, ex}
+use Rattle.std.proofs.Common.{ℕ, List, [], ◌∷◌, ap}
+use Rattle.fol_theory.specs.Syntax.{Formula, pred}
 use Rattle.fol_theory.specs.Printing.{unnamed}
-use Rattle.env_theory.specs.Declarations.{Declaration, sort, function, predicate, stated, term, formula, find}
+use Rattle.env_theory.specs.Declarations.{Declaration, stated, formula}
 use Rattle.env_theory.specs.Typing.{WellFormed, Environment, Put, Puts}
 use Rattle.env_theory.specs.Heads.{expand_head, head_form}
 use Rattle.env_theory.specs.Orders.{InOrder, Lawful}

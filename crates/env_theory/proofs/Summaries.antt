@@ -1,7 +1,7 @@
 -- What the row of a definition tells of its normal form: whether that is a parameter, and which.
-use Rattle.std.proofs.Common.{◌≡◌, ℕ, ◌+◌, ◌*◌, if◌then◌else◌, ◌==◌, List, [], refl, sym, ap, ◌∙◌, arith}
+use Rattle.std.proofs.Common.{◌≡◌, ℕ, List, [], refl, sym, ap, ◌∙◌, arith}
 use Rattle.std.proofs.lemmas.Bool.Decides.{nat_tests}
-use Rattle.fol_theory.specs.Syntax.{Term, var, app, Terms}
+use Rattle.fol_theory.specs.Syntax.{Term, var, app}
 use Rattle.env_theory.specs.Declarations.{Declaration}
 use Rattle.env_theory.specs.Typing.{HasSort, Environment}
 use Rattle.env_theory.specs.Normal.{normal_term}
