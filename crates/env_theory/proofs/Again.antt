@@ -1,11 +1,13 @@
 -- Definitions put in again: what was put in before changes no normal form.
 use Rattle.std.proofs.Common.{◌≡◌, ℕ, Bool, true, false, List, [], ◌∷◌, refl, sym, ap, subst, ◌∙◌, inl, inr, if◌then◌else◌, ◌==◌, None}
 use Rattle.std.proofs.Math.Path.{fun_ext}
-use Rattle.fol_theory.specs.Syntax.{Term, var, app, Terms, nil, cons, Formula, truth, falsity, pred, equal, both, either, implies, all, ex, is_name}
+use Rattle.fol_theory.specs.Syntax.{Term, var, app, Terms, nil, cons, Formula, truth, falsity, pred, equal, both, either, implies, all, ex}
+use Rattle.fol_theory.specs.Syntax.{is_name}
 use Rattle.fol_theory.specs.Substitution.{replace_term, replace}
 use Rattle.env_theory.specs.Declarations.{Declaration, sort, function, predicate, stated, term, formula, name_of, find, bound}
 use Rattle.env_theory.specs.Typing.{Declares, Environment}
-use Rattle.env_theory.specs.Normal.{many, argument, unfold_term, unfold_terms, unfold_function, unfold_predicate, expand_term, expand, normal}
+use Rattle.env_theory.specs.Normal.{many, argument, unfold_term, unfold_terms, unfold_function, unfold_predicate, expand_term, expand}
+use Rattle.env_theory.specs.Normal.{normal}
 use Rattle.env_theory.specs.Heads.{expand_head, head_form}
 use Rattle.env_theory.specs.Orders.{Member, AreNamed, InOrder}
 use Rattle.env_theory.proofs.SameNames.{one_name}
@@ -23,7 +25,9 @@ module _ (n : List ℕ) (b : Term) (named : n ≡ [] → ⊥) where
       go : (r : Bool) → is_name n [] ≡ r → (if r then replace_term (argument nil) b else app [] nil) ≡ app [] nil
       go true e = absurd (named (one_name n [] e))
       go false e = refl
-  argument_unfold (cons t ts) i = go (i == many ts) (argument_unfold ts i) ∙ sym (ap (λ k. if i == k then unfold_term n b t else argument (unfold_terms n b ts) i) (many_unfold n b ts))
+  argument_unfold (cons t ts) i =
+      go (i == many ts) (argument_unfold ts i)
+      ∙ sym (ap (λ k. if i == k then unfold_term n b t else argument (unfold_terms n b ts) i) (many_unfold n b ts))
     where
       go : (r : Bool) → unfold_term n b (argument ts i) ≡ argument (unfold_terms n b ts) i →
           unfold_term n b (if r then t else argument ts i) ≡ (if r then unfold_term n b t else argument (unfold_terms n b ts) i)
@@ -33,21 +37,26 @@ module _ (n : List ℕ) (b : Term) (named : n ≡ [] → ⊥) where
   arguments_unfold : (ts : Terms) → (λ i. unfold_term n b (argument ts i)) ≡ argument (unfold_terms n b ts)
   arguments_unfold ts = fun_ext (argument_unfold ts)
 
-  term_behind : (us : Terms) (t : Term) → unfold_term n b (replace_term (argument us) t) ≡ replace_term (argument (unfold_terms n b us)) (unfold_term n b t)
+  term_behind : (us : Terms) (t : Term)
+      → unfold_term n b (replace_term (argument us) t) ≡ replace_term (argument (unfold_terms n b us)) (unfold_term n b t)
   term_behind us t = unfold_term_replace n b (argument us) t ∙ ap (λ ρ. replace_term ρ (unfold_term n b t)) (arguments_unfold us)
 
-  function_behind : (us : Terms) (a : Formula) → unfold_function n b (replace (argument us) a) ≡ replace (argument (unfold_terms n b us)) (unfold_function n b a)
+  function_behind : (us : Terms) (a : Formula)
+      → unfold_function n b (replace (argument us) a) ≡ replace (argument (unfold_terms n b us)) (unfold_function n b a)
   function_behind us a = unfold_function_replace n b (argument us) a ∙ ap (λ ρ. replace ρ (unfold_function n b a)) (arguments_unfold us)
 
 -- ---- at a name that is tested
 
-term_here : (n : List ℕ) (b : Term) (f : List ℕ) (ts : Terms) → is_name n f ≡ true → unfold_term n b (app f ts) ≡ replace_term (argument (unfold_terms n b ts)) b
+term_here : (n : List ℕ) (b : Term) (f : List ℕ) (ts : Terms) → is_name n f ≡ true
+    → unfold_term n b (app f ts) ≡ replace_term (argument (unfold_terms n b ts)) b
 term_here n b f ts e = ap (λ r. if r then replace_term (argument (unfold_terms n b ts)) b else app f (unfold_terms n b ts)) e
 
-term_other : (n : List ℕ) (b : Term) (f : List ℕ) (ts : Terms) → is_name n f ≡ false → unfold_term n b (app f ts) ≡ app f (unfold_terms n b ts)
+term_other : (n : List ℕ) (b : Term) (f : List ℕ) (ts : Terms) → is_name n f ≡ false
+    → unfold_term n b (app f ts) ≡ app f (unfold_terms n b ts)
 term_other n b f ts e = ap (λ r. if r then replace_term (argument (unfold_terms n b ts)) b else app f (unfold_terms n b ts)) e
 
-formula_here : (n : List ℕ) (b : Formula) (p : List ℕ) (ts : Terms) → is_name n p ≡ true → unfold_predicate n b (pred p ts) ≡ replace (argument ts) b
+formula_here : (n : List ℕ) (b : Formula) (p : List ℕ) (ts : Terms) → is_name n p ≡ true
+    → unfold_predicate n b (pred p ts) ≡ replace (argument ts) b
 formula_here n b p ts e = ap (λ r. if r then replace (argument ts) b else pred p ts) e
 
 formula_other : (n : List ℕ) (b : Formula) (p : List ℕ) (ts : Terms) → is_name n p ≡ false → unfold_predicate n b (pred p ts) ≡ pred p ts
@@ -92,7 +101,8 @@ module _ (n : List ℕ) (b : Term) (named : n ≡ [] → ⊥) (left : unfold_ter
   function_twice (ex s x a) = ap (ex s x) (function_twice a)
 
   -- with the definition of a predicate put in between
-  function_again : (m : List ℕ) (c : Formula) (a : Formula) → unfold_function n b (unfold_predicate m c (unfold_function n b a)) ≡ unfold_function n b (unfold_predicate m c a)
+  function_again : (m : List ℕ) (c : Formula) (a : Formula)
+      → unfold_function n b (unfold_predicate m c (unfold_function n b a)) ≡ unfold_function n b (unfold_predicate m c a)
   function_again m c truth = refl
   function_again m c falsity = refl
   function_again m c (pred p ts) = go (is_name m p)
@@ -100,8 +110,10 @@ module _ (n : List ℕ) (b : Term) (named : n ≡ [] → ⊥) (left : unfold_ter
       us : Terms
       us = unfold_terms n b ts
 
-      go : (r : Bool) → unfold_function n b (if r then replace (argument us) c else pred p us) ≡ unfold_function n b (if r then replace (argument ts) c else pred p ts)
-      go true = function_behind n b named us c ∙ ap (λ z. replace (argument z) (unfold_function n b c)) (terms_twice ts) ∙ sym (function_behind n b named ts c)
+      go : (r : Bool) → unfold_function n b (if r then replace (argument us) c else pred p us)
+          ≡ unfold_function n b (if r then replace (argument ts) c else pred p ts)
+      go true = function_behind n b named us c ∙ ap (λ z. replace (argument z) (unfold_function n b c)) (terms_twice ts)
+          ∙ sym (function_behind n b named ts c)
       go false = ap (pred p) (terms_twice ts)
   function_again m c (equal s t u) = λ i. equal s (term_twice t i) (term_twice u i)
   function_again m c (both x y) = λ i. both (function_again m c x i) (function_again m c y i)
@@ -116,7 +128,8 @@ module _ (n : List ℕ) (b : Formula) (left : unfold_predicate n b b ≡ b) wher
   predicate_twice falsity = refl
   predicate_twice (pred p ts) = go (is_name n p) refl
     where
-      go : (r : Bool) → is_name n p ≡ r → unfold_predicate n b (if r then replace (argument ts) b else pred p ts) ≡ (if r then replace (argument ts) b else pred p ts)
+      go : (r : Bool) → is_name n p ≡ r
+          → unfold_predicate n b (if r then replace (argument ts) b else pred p ts) ≡ (if r then replace (argument ts) b else pred p ts)
       go true e = unfold_predicate_replace n b (argument ts) b ∙ ap (replace (argument ts)) left
       go false e = formula_other n b p ts e
   predicate_twice (equal s t u) = refl
@@ -128,7 +141,8 @@ module _ (n : List ℕ) (b : Formula) (left : unfold_predicate n b b ≡ b) wher
 
 -- ---- the older definition m put in before a newer one n and after it; the newer leaves the body of the older alone
 
-module _ (m n : List ℕ) (b c : Term) (older : m ≡ [] → ⊥) (newer : n ≡ [] → ⊥) (apart : m ≡ n → ⊥) (own : unfold_term m b b ≡ b) (left : unfold_term n c b ≡ b) where
+module _ (m n : List ℕ) (b c : Term) (older : m ≡ [] → ⊥) (newer : n ≡ [] → ⊥) (apart : m ≡ n → ⊥) (own : unfold_term m b b ≡ b)
+    (left : unfold_term n c b ≡ b) where
   mutual
     term_again : (t : Term) → unfold_term m b (unfold_term n c (unfold_term m b t)) ≡ unfold_term m b (unfold_term n c t)
     term_again (var i) = refl
@@ -137,7 +151,8 @@ module _ (m n : List ℕ) (b c : Term) (older : m ≡ [] → ⊥) (newer : n ≡
         us : Terms
         us = unfold_terms m b ts
 
-        go : (r s : Bool) → is_name m f ≡ r → is_name n f ≡ s → unfold_terms m b (unfold_terms n c us) ≡ unfold_terms m b (unfold_terms n c ts) →
+        go : (r s : Bool) → is_name m f ≡ r → is_name n f ≡ s
+            → unfold_terms m b (unfold_terms n c us) ≡ unfold_terms m b (unfold_terms n c ts) →
             unfold_term m b (unfold_term n c (unfold_term m b (app f ts))) ≡ unfold_term m b (unfold_term n c (app f ts))
         go true s p q e =
             ap (λ z. unfold_term m b (unfold_term n c z)) (term_here m b f ts p)
@@ -162,7 +177,8 @@ module _ (m n : List ℕ) (b c : Term) (older : m ≡ [] → ⊥) (newer : n ≡
     terms_again nil = refl
     terms_again (cons t ts) = λ i. cons (term_again t i) (terms_again ts i)
 
-  functions_again : (a : Formula) → unfold_function m b (unfold_function n c (unfold_function m b a)) ≡ unfold_function m b (unfold_function n c a)
+  functions_again : (a : Formula)
+      → unfold_function m b (unfold_function n c (unfold_function m b a)) ≡ unfold_function m b (unfold_function n c a)
   functions_again truth = refl
   functions_again falsity = refl
   functions_again (pred p ts) = ap (pred p) (terms_again ts)
@@ -174,8 +190,10 @@ module _ (m n : List ℕ) (b c : Term) (older : m ≡ [] → ⊥) (newer : n ≡
   functions_again (ex s v x) = ap (ex s v) (functions_again x)
 
 -- the older is a predicate, the newer a function
-module _ (m n : List ℕ) (b : Formula) (c : Term) (newer : n ≡ [] → ⊥) (own : unfold_predicate m b b ≡ b) (left : unfold_function n c b ≡ b) where
-  predicate_again : (a : Formula) → unfold_predicate m b (unfold_function n c (unfold_predicate m b a)) ≡ unfold_predicate m b (unfold_function n c a)
+module _ (m n : List ℕ) (b : Formula) (c : Term) (newer : n ≡ [] → ⊥) (own : unfold_predicate m b b ≡ b)
+    (left : unfold_function n c b ≡ b) where
+  predicate_again : (a : Formula)
+      → unfold_predicate m b (unfold_function n c (unfold_predicate m b a)) ≡ unfold_predicate m b (unfold_function n c a)
   predicate_again truth = refl
   predicate_again falsity = refl
   predicate_again (pred p ts) = go (is_name m p) refl
@@ -183,7 +201,9 @@ module _ (m n : List ℕ) (b : Formula) (c : Term) (newer : n ≡ [] → ⊥) (o
       us : Terms
       us = unfold_terms n c ts
 
-      go : (r : Bool) → is_name m p ≡ r → unfold_predicate m b (unfold_function n c (unfold_predicate m b (pred p ts))) ≡ unfold_predicate m b (unfold_function n c (pred p ts))
+      go : (r : Bool) → is_name m p ≡ r
+          → unfold_predicate m b (unfold_function n c (unfold_predicate m b (pred p ts)))
+          ≡ unfold_predicate m b (unfold_function n c (pred p ts))
       go true q =
           ap (λ z. unfold_predicate m b (unfold_function n c z)) (formula_here m b p ts q)
           ∙ ap (unfold_predicate m b) (function_behind n c newer ts b ∙ ap (replace (argument us)) left)
@@ -200,12 +220,15 @@ module _ (m n : List ℕ) (b : Formula) (c : Term) (newer : n ≡ [] → ⊥) (o
 
 -- both are predicates
 module _ (m n : List ℕ) (b c : Formula) (apart : m ≡ n → ⊥) (own : unfold_predicate m b b ≡ b) (left : unfold_predicate n c b ≡ b) where
-  predicates_again : (a : Formula) → unfold_predicate m b (unfold_predicate n c (unfold_predicate m b a)) ≡ unfold_predicate m b (unfold_predicate n c a)
+  predicates_again : (a : Formula)
+      → unfold_predicate m b (unfold_predicate n c (unfold_predicate m b a)) ≡ unfold_predicate m b (unfold_predicate n c a)
   predicates_again truth = refl
   predicates_again falsity = refl
   predicates_again (pred p ts) = go (is_name m p) refl
     where
-      go : (r : Bool) → is_name m p ≡ r → unfold_predicate m b (unfold_predicate n c (unfold_predicate m b (pred p ts))) ≡ unfold_predicate m b (unfold_predicate n c (pred p ts))
+      go : (r : Bool) → is_name m p ≡ r
+          → unfold_predicate m b (unfold_predicate n c (unfold_predicate m b (pred p ts)))
+          ≡ unfold_predicate m b (unfold_predicate n c (pred p ts))
       go true q =
           ap (λ z. unfold_predicate m b (unfold_predicate n c z)) (formula_here m b p ts q)
           ∙ ap (unfold_predicate m b) (unfold_predicate_replace n c (argument ts) b ∙ ap (replace (argument ts)) left)
@@ -286,29 +309,35 @@ normal_expand (e ∷ E) o d (inl m) a =
 normal_expand (e ∷ E) o d (inr m) a =
     let rest : InOrder E = (o.0.2, o.1.2) in
     sym (normal_expand E rest d m (expand e (expand d a)))
-    ∙ ap (normal E) (expand_again d e (has_name E o.1.2 d m) o.1.0 (member_other E (name_of e) d o.0.0 m) (own_leaves E o.0.2 d m) (newer_leaves E o.0.2 e d o.0.0 m) a)
+    ∙ ap (normal E) (expand_again d e (has_name E o.1.2 d m) o.1.0 (member_other E (name_of e) d o.0.0 m) (own_leaves E o.0.2 d m)
+    (newer_leaves E o.0.2 e d o.0.0 m) a)
     ∙ normal_expand E rest d m (expand e a)
 
 -- the same where only the head is unfolded
 head_first : (d : Declaration) → Leaves d d → (a : Formula) → expand d (expand_head d a) ≡ expand d a
 head_first (formula n ps b) k (pred p ts) = go (is_name n p) refl
   where
-    go : (r : Bool) → is_name n p ≡ r → unfold_predicate n b (if r then replace (argument ts) b else pred p ts) ≡ unfold_predicate n b (pred p ts)
+    go : (r : Bool) → is_name n p ≡ r
+        → unfold_predicate n b (if r then replace (argument ts) b else pred p ts) ≡ unfold_predicate n b (pred p ts)
     go true q = unfold_predicate_replace n b (argument ts) b ∙ ap (replace (argument ts)) k ∙ sym (formula_here n b p ts q)
     go false q = refl
 head_first d k a = refl
 
-pub normal_head : (E : List Declaration) → InOrder E → (d : Declaration) → Member d E → (a : Formula) → normal E (expand_head d a) ≡ normal E a
-normal_head E o d m a = sym (normal_expand E o d m (expand_head d a)) ∙ ap (normal E) (head_first d (own_leaves E o.0 d m) a) ∙ normal_expand E o d m a
+pub normal_head : (E : List Declaration) → InOrder E → (d : Declaration) → Member d E → (a : Formula)
+    → normal E (expand_head d a) ≡ normal E a
+normal_head E o d m a =
+    sym (normal_expand E o d m (expand_head d a)) ∙ ap (normal E) (head_first d (own_leaves E o.0 d m) a) ∙ normal_expand E o d m a
 
 -- and where each declaration of a part of the environment is
 abbrev pub Within : List Declaration → List Declaration → Type 0
 Within F E = (d : Declaration) → Member d F → Member d E
 
-pub within_normal : (E : List Declaration) → InOrder E → (F : List Declaration) → Within F E → (a : Formula) → normal E (normal F a) ≡ normal E a
+pub within_normal : (E : List Declaration) → InOrder E → (F : List Declaration) → Within F E → (a : Formula)
+    → normal E (normal F a) ≡ normal E a
 within_normal E o [] i a = refl
 within_normal E o (d ∷ F) i a = within_normal E o F (λ c m. i c (inr m)) (expand d a) ∙ normal_expand E o d (i d (inl refl)) a
 
-pub within_head : (E : List Declaration) → InOrder E → (F : List Declaration) → Within F E → (a : Formula) → normal E (head_form F a) ≡ normal E a
+pub within_head : (E : List Declaration) → InOrder E → (F : List Declaration) → Within F E → (a : Formula)
+    → normal E (head_form F a) ≡ normal E a
 within_head E o [] i a = refl
 within_head E o (d ∷ F) i a = within_head E o F (λ c m. i c (inr m)) (expand_head d a) ∙ normal_head E o d (i d (inl refl)) a

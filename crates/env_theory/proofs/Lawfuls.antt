@@ -14,7 +14,8 @@ use Rattle.env_theory.proofs.Members.{found_member}
 use Rattle.env_theory.proofs.Again.{normal_expand, within_normal, within_head}
 
 -- a definition put in at the head keeps a formula well formed, for there it is put in whole
-pub expand_head_formed : (F : List Declaration) (d : Declaration) → Put F d → (V : List (List ℕ)) (a : Formula) → WellFormed F V a → WellFormed F V (expand_head d a)
+pub expand_head_formed : (F : List Declaration) (d : Declaration) → Put F d → (V : List (List ℕ)) (a : Formula) → WellFormed F V a
+    → WellFormed F V (expand_head d a)
 expand_head_formed F (formula n ps b) p V (pred q ts) h = expand_formed F (formula n ps b) p V (pred q ts) h
 expand_head_formed F d p V a h = h
 
@@ -22,7 +23,8 @@ heads_formed : (F E : List Declaration) → Puts F E → (V : List (List ℕ)) (
 heads_formed F [] p V a h = h
 heads_formed F (d ∷ E) p V a h = heads_formed F E p.1 V (expand_head d a) (expand_head_formed F d p.0 V a h)
 
-pub head_formed : (E : List Declaration) → Environment E → (V : List (List ℕ)) (a : Formula) → WellFormed E V a → WellFormed E V (head_form E a)
+pub head_formed : (E : List Declaration) → Environment E → (V : List (List ℕ)) (a : Formula) → WellFormed E V a
+    → WellFormed E V (head_form E a)
 head_formed E x V a h = heads_formed E E (puts E x) V a h
 
 pub lawful : (E : List Declaration) → InOrder E → Lawful E

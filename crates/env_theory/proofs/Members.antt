@@ -15,7 +15,8 @@ found_name [] n d h = absurd (impossible h)
     impossible h = cc
 found_name (e ∷ E) n d h = go (is_name (name_of e) n) refl h (found_name E n d)
   where
-    go : (q : Bool) → is_name (name_of e) n ≡ q → (if q then Some e else find E n) ≡ Some d → (find E n ≡ Some d → name_of d ≡ n) → name_of d ≡ n
+    go : (q : Bool) → is_name (name_of e) n ≡ q → (if q then Some e else find E n) ≡ Some d → (find E n ≡ Some d → name_of d ≡ n)
+        → name_of d ≡ n
     go true q k f = let same : e ≡ d = cc in ap name_of (sym same) ∙ one_name (name_of e) n q
     go false q k f = f k
 
@@ -48,9 +49,11 @@ member_other (c ∷ E) n d h (inr m) e = member_other E n d (not_found c E n h).
 -- a member is what its name finds
 pub member_found : (E : List Declaration) → Environment E → (d : Declaration) → Member d E → find E (name_of d) ≡ Some d
 member_found [] x d m = absurd m
-member_found (c ∷ E) x d (inl q) = subst (λ z. find (c ∷ E) (name_of z) ≡ Some z) (sym q) (ap (λ r. if r then Some c else find E (name_of c)) (own_name (name_of c)))
+member_found (c ∷ E) x d (inl q) =
+    subst (λ z. find (c ∷ E) (name_of z) ≡ Some z) (sym q) (ap (λ r. if r then Some c else find E (name_of c)) (own_name (name_of c)))
 member_found (c ∷ E) x d (inr m) = go (is_name (name_of c) (name_of d)) refl (member_found E x.2 d m)
   where
-    go : (q : Bool) → is_name (name_of c) (name_of d) ≡ q → find E (name_of d) ≡ Some d → (if q then Some c else find E (name_of d)) ≡ Some d
+    go : (q : Bool) → is_name (name_of c) (name_of d) ≡ q → find E (name_of d) ≡ Some d
+        → (if q then Some c else find E (name_of d)) ≡ Some d
     go true e f = absurd (member_other E (name_of c) d x.0 m (sym (one_name (name_of c) (name_of d) e)))
     go false e f = f

@@ -30,7 +30,8 @@ module _ (E : List Declaration) (x : Environment E) (V : List (List ℕ)) (t : T
   own_variable k = is_variable (normal_term E t) refl (sym own_part ∙ k)
 
   -- the variable is the one that stands in it once, where the others don't
-  pub variable_uses : (i : ℕ) → normal_term E t ≡ var i → (k : ℕ) → count_term by_nodes (Table.functions (table by_nodes E)) 0 (only k) t ≡ only k i
+  pub variable_uses : (i : ℕ) → normal_term E t ≡ var i → (k : ℕ)
+      → count_term by_nodes (Table.functions (table by_nodes E)) 0 (only k) t ≡ only k i
   variable_uses i e k = rows_term by_nodes nodes_laws E E (puts E x) 0 (only k) V t s h ∙ ap (count_term by_nodes [] 0 (only k)) e
 
 -- so it is found by its count

@@ -1,6 +1,7 @@
 -- Without some Stated declarations normal forms are the same, and what is typed or well formed is so.
 use Rattle.std.proofs.Common.{◌≡◌, ℕ, Bool, true, false, List, [], ◌∷◌, refl, sym, ap, subst, ◌∙◌, if◌then◌else◌, Option, Some, None}
-use Rattle.fol_theory.specs.Syntax.{Term, var, app, Terms, nil, cons, Formula, truth, falsity, pred, equal, both, either, implies, all, ex, is_name}
+use Rattle.fol_theory.specs.Syntax.{Term, var, app, Terms, nil, cons, Formula, truth, falsity, pred, equal, both, either, implies, all, ex}
+use Rattle.fol_theory.specs.Syntax.{is_name}
 use Rattle.fol_theory.specs.Printing.{unnamed}
 use Rattle.env_theory.specs.Declarations.{Declaration, sort, function, predicate, stated, term, formula, name_of, find, sorts_of, bound}
 use Rattle.env_theory.specs.Typing.{HasSort, HaveSorts, WellFormed, takes, Gives, IsSort, IsPredicate, AreSorts, Declares, Environment}
@@ -34,7 +35,8 @@ module _ (keep : List ℕ → Bool) where
   thinned_normal [] a = refl
   thinned_normal (stated n b ∷ E) a = go (keep n) (thinned_normal E a)
     where
-      go : (r : Bool) → normal (thinned keep E) a ≡ normal E a → normal (if r then stated n b ∷ thinned keep E else thinned keep E) a ≡ normal E a
+      go : (r : Bool) → normal (thinned keep E) a ≡ normal E a
+          → normal (if r then stated n b ∷ thinned keep E else thinned keep E) a ≡ normal E a
       go true h = h
       go false h = h
   thinned_normal (d ∷ E) a = thinned_normal E (expand d a)
@@ -49,7 +51,8 @@ module _ (keep : List ℕ → Bool) where
   other_stays [] n h = refl
   other_stays (stated m a ∷ E) n h = go (is_name m n) (keep m) refl h (λ k. other_stays E n k)
     where
-      go : (q r : Bool) → is_name m n ≡ q → IsOther (if q then Some (stated m a) else find E n) → (IsOther (find E n) → find (thinned keep E) n ≡ find E n) →
+      go : (q r : Bool) → is_name m n ≡ q → IsOther (if q then Some (stated m a) else find E n)
+          → (IsOther (find E n) → find (thinned keep E) n ≡ find E n) →
           find (if r then stated m a ∷ thinned keep E else thinned keep E) n ≡ (if q then Some (stated m a) else find E n)
       go true r e k f = absurd k
       go false true e k f = ap (λ z. if z then Some (stated m a) else find (thinned keep E) n) e ∙ f k
@@ -69,10 +72,12 @@ module _ (keep : List ℕ → Bool) where
       go : (r : Bool) → find (thinned keep E) n ≡ None → find (if r then stated m a ∷ thinned keep E else thinned keep E) n ≡ None
       go true f = ap (λ z. if z then Some (stated m a) else find (thinned keep E) n) (not_found (stated m a) E n h).0 ∙ f
       go false f = f
-  none_stays (d ∷ E) n h = ap (λ z. if z then Some d else find (thinned keep E) n) (not_found d E n h).0 ∙ none_stays E n (not_found d E n h).1
+  none_stays (d ∷ E) n h =
+      ap (λ z. if z then Some d else find (thinned keep E) n) (not_found d E n h).0 ∙ none_stays E n (not_found d E n h).1
 
   -- a Stated formula stays whose name is kept
-  pub kept_stays : (E : List Declaration) (n m : List ℕ) (a : Formula) → keep n ≡ true → find E n ≡ Some (stated m a) → find (thinned keep E) n ≡ Some (stated m a)
+  pub kept_stays : (E : List Declaration) (n m : List ℕ) (a : Formula) → keep n ≡ true → find E n ≡ Some (stated m a)
+      → find (thinned keep E) n ≡ Some (stated m a)
   kept_stays [] n m a k h = h
   kept_stays (stated l b ∷ E) n m a k h = go (is_name l n) (keep l) refl refl h (λ e. kept_stays E n m a k e)
     where
@@ -88,7 +93,8 @@ module _ (keep : List ℕ → Bool) where
       go false false e f g i = i g
   kept_stays (d ∷ E) n m a k h = go (is_name (name_of d) n) h (λ e. kept_stays E n m a k e)
     where
-      go : (q : Bool) → (if q then Some d else find E n) ≡ Some (stated m a) → (find E n ≡ Some (stated m a) → find (thinned keep E) n ≡ Some (stated m a)) →
+      go : (q : Bool) → (if q then Some d else find E n) ≡ Some (stated m a)
+          → (find E n ≡ Some (stated m a) → find (thinned keep E) n ≡ Some (stated m a)) →
           (if q then Some d else find (thinned keep E) n) ≡ Some (stated m a)
       go true g i = g
       go false g i = i g
@@ -102,10 +108,13 @@ module _ (keep : List ℕ → Bool) where
     pub thinned_sort : (E : List Declaration) (V : List (List ℕ)) (t : Term) (s : List ℕ) → HasSort E V t s → HasSort (thinned keep E) V t s
     thinned_sort E V (var i) s h = h
     thinned_sort E V (app f ts) s h =
-        let e = sym (other_stays E f (given_other (find E f) s h.0)) in
-        (subst (λ o. Gives o s) e h.0, subst (λ o. HaveSorts (thinned keep E) V ts (takes o)) e (thinned_sorts E V ts (takes (find E f)) h.1))
+        let e = sym (other_stays E f (given_other (find E f) s h.0)) in (
+          subst (λ o. Gives o s) e h.0,
+          subst (λ o. HaveSorts (thinned keep E) V ts (takes o)) e (thinned_sorts E V ts (takes (find E f)) h.1),
+        )
 
-    pub thinned_sorts : (E : List Declaration) (V : List (List ℕ)) (ts : Terms) (ss : List (List ℕ)) → HaveSorts E V ts ss → HaveSorts (thinned keep E) V ts ss
+    pub thinned_sorts : (E : List Declaration) (V : List (List ℕ)) (ts : Terms) (ss : List (List ℕ)) → HaveSorts E V ts ss
+        → HaveSorts (thinned keep E) V ts ss
     thinned_sorts E V nil [] h = h
     thinned_sorts E V nil (s ∷ ss) h = h
     thinned_sorts E V (cons t ts) [] h = h

@@ -1,8 +1,10 @@
 -- What an environment declares stays declared when it grows.
 use Rattle.std.proofs.Common.{◌≡◌, ℕ, Bool, true, false, List, [], ◌∷◌, refl, sym, ap, subst, if◌then◌else◌, Option, Some, None}
-use Rattle.fol_theory.specs.Syntax.{Term, var, app, Terms, nil, cons, Formula, truth, falsity, pred, equal, both, either, implies, all, ex, is_name}
+use Rattle.fol_theory.specs.Syntax.{Term, var, app, Terms, nil, cons, Formula, truth, falsity, pred, equal, both, either, implies, all, ex}
+use Rattle.fol_theory.specs.Syntax.{is_name}
 use Rattle.env_theory.specs.Declarations.{Declaration, sort, function, predicate, stated, term, formula, name_of, find, bound}
-use Rattle.env_theory.specs.Typing.{Extends, HasSort, HaveSorts, WellFormed, takes, Gives, IsSort, IsPredicate, Declares, Environment, Put, Puts}
+use Rattle.env_theory.specs.Typing.{Extends, HasSort, HaveSorts, WellFormed, takes, Gives, IsSort, IsPredicate, Declares, Environment, Put}
+use Rattle.env_theory.specs.Typing.{Puts}
 use Rattle.env_theory.proofs.SameNames.{one_name, own_name}
 
 abbrev Known : Option Declaration → Type 0
@@ -37,7 +39,8 @@ mutual
   has_sort E F x V (app f ts) s h = let e = sym (stays E F x f (known_gives (find E f) s h.0)) in
       (subst (λ o. Gives o s) e h.0, subst (λ o. HaveSorts F V ts (takes o)) e (have_sorts E F x V ts (takes (find E f)) h.1))
 
-  pub have_sorts : (E F : List Declaration) → Extends E F → (V : List (List ℕ)) (ts : Terms) (ss : List (List ℕ)) → HaveSorts E V ts ss → HaveSorts F V ts ss
+  pub have_sorts : (E F : List Declaration) → Extends E F → (V : List (List ℕ)) (ts : Terms) (ss : List (List ℕ)) → HaveSorts E V ts ss
+      → HaveSorts F V ts ss
   have_sorts E F x V nil [] h = h
   have_sorts E F x V nil (s ∷ ss) h = h
   have_sorts E F x V (cons t ts) [] h = h

@@ -10,7 +10,8 @@ abbrev pub expand_head : Declaration → Formula → Formula
 expand_head (formula n ps b) (pred p ts) = if is_name n p then replace (argument ts) b else pred p ts
 expand_head d a = a
 
--- The bodies of predicates put in at the head, the newest definition first. A body names older declarations alone, so no defined predicate is left there.
+-- The bodies of predicates put in at the head, the newest definition first. A body names older declarations alone, so no defined predicate
+-- is left there.
 abbrev pub head_form : List Declaration → Formula → Formula
 head_form [] a = a
 head_form (d ∷ E) a = head_form E (expand_head d a)

@@ -73,12 +73,14 @@ NamesAre N (d ∷ E) = DeclaresNames N d × NamesAre N E
 
 -- ---- what is used of an environment
 
--- Head forms, unfolded formulas and normal forms are the same as before, and well formed; the sort of a term is declared; a Stated formula is closed.
+-- Head forms, unfolded formulas and normal forms are the same as before, and well formed; the sort of a term is declared; a Stated formula
+-- is closed.
 pub record Lawful (E : List Declaration) : Type 0 where
   pub head_same : (a : Formula) → Same E (head_form E a) a
   pub head_formed : (V : List (List ℕ)) (a : Formula) → WellFormed E V a → WellFormed E V (head_form E a)
   pub unfold_same : (n : List ℕ) (d : Declaration) → find E n ≡ Some d → (a : Formula) → Same E (expand d a) a
-  pub unfold_formed : (n : List ℕ) (d : Declaration) → find E n ≡ Some d → (V : List (List ℕ)) (a : Formula) → WellFormed E V a → WellFormed E V (expand d a)
+  pub unfold_formed : (n : List ℕ) (d : Declaration) → find E n ≡ Some d → (V : List (List ℕ)) (a : Formula) → WellFormed E V a
+      → WellFormed E V (expand d a)
   pub normal_same : (a : Formula) → Same E (normal E a) a
   pub normal_formed : (V : List (List ℕ)) (a : Formula) → WellFormed E V a → WellFormed E V (normal E a)
   pub sort_declared : (V : List (List ℕ)) → AreSorts E V → (t : Term) (s : List ℕ) → HasSort E V t s → IsSort (find E s)
