@@ -25,7 +25,8 @@ position_of [] i d l = absurd (omega (arith, l))
 position_of (x ∷ xs) zero d l = ap (λ t. if t then Some 0 else elim (position x xs) [ None ↦ None | Some i ↦ Some (suc i) ]) (same_name x)
 position_of (x ∷ xs) (suc i) d l =
     let there = found xs i (omega (arith, l)) in
-    let off : pointwise nat_eq (name_of xs i) x ≡ false = other_name (name_of xs i) x (λ e. false≢true (sym d.0 ∙ ap (λ y. is_among y xs) (sym e) ∙ there)) in
+    let off : pointwise nat_eq (name_of xs i) x ≡ false =
+    other_name (name_of xs i) x (λ e. false≢true (sym d.0 ∙ ap (λ y. is_among y xs) (sym e) ∙ there)) in
     ap (λ t. if t then Some 0 else elim (position (name_of xs i) xs) [ None ↦ None | Some i ↦ Some (suc i) ]) off
     ∙ ap (λ o. elim o as (λ o. Option ℕ) [ None ↦ None | Some i ↦ Some (suc i) ]) (position_of xs i d.1 (omega (arith, l)))
 
@@ -52,15 +53,18 @@ apart_under names taken x c h =
     (ap (λ t. t || is_among c names) off ∙ h.0, h.1)
 
 mutual
-  pub term_apart_under : (names taken : List (List ℕ)) (x : List ℕ) (t : Term) → IsApartTerm names taken t → IsApartTerm (bound_name names taken x ∷ names) taken t
+  pub term_apart_under : (names taken : List (List ℕ)) (x : List ℕ) (t : Term) → IsApartTerm names taken t
+      → IsApartTerm (bound_name names taken x ∷ names) taken t
   term_apart_under names taken x (var i) h = tt
   term_apart_under names taken x (app f ts) h = (apart_under names taken x f h.0, terms_apart_under names taken x ts h.1)
 
-  pub terms_apart_under : (names taken : List (List ℕ)) (x : List ℕ) (ts : Terms) → AreApart names taken ts → AreApart (bound_name names taken x ∷ names) taken ts
+  pub terms_apart_under : (names taken : List (List ℕ)) (x : List ℕ) (ts : Terms) → AreApart names taken ts
+      → AreApart (bound_name names taken x ∷ names) taken ts
   terms_apart_under names taken x nil h = tt
   terms_apart_under names taken x (cons t ts) h = (term_apart_under names taken x t h.0, terms_apart_under names taken x ts h.1)
 
-pub formula_apart_under : (names taken : List (List ℕ)) (x : List ℕ) (a : Formula) → IsApartFormula names taken a → IsApartFormula (bound_name names taken x ∷ names) taken a
+pub formula_apart_under : (names taken : List (List ℕ)) (x : List ℕ) (a : Formula) → IsApartFormula names taken a
+    → IsApartFormula (bound_name names taken x ∷ names) taken a
 formula_apart_under names taken x truth h = tt
 formula_apart_under names taken x falsity h = tt
 formula_apart_under names taken x (pred p ts) h = (apart_under names taken x p h.0, terms_apart_under names taken x ts h.1)

@@ -16,7 +16,7 @@ use Rattle.vern_sentence.specs.Sentences.{IsSentence, lemma, theorem, parameter,
 use Rattle.fol_theory.specs.Syntax.{Term, Formula}
 use Rattle.print_theory.specs.Printing.{quantifier_level, term_tokens, formula_tokens, term_openings, formula_openings, IsPrintableTerm, IsPrintable}
 use Rattle.print_theory.specs.Spelling.{IsWritten, spell, spell_behind, spelling, between, stand, stand_behind, formula_text, term_text}
-use Rattle.print_theory.specs.Reading.{ReadsAs, BeginsWith, DeclaresAs, sentence_of}
+use Rattle.print_theory.specs.Reading.{ReadsAs, BeginsWith, DeclaresAs, IsShown, sentence_of}
 use Rattle.print_theory.specs.Trees.{spanless, spanless_shape, term_tree, formula_tree, formula_shape}
 use Rattle.print_theory.proofs.Lexed.{spelled_tokens}
 use Rattle.print_theory.proofs.Operands.{laid, past, kinds, spans, laid_again, laid_append, term_read, formula_read}
@@ -60,19 +60,25 @@ somewhere_formula names taken a h σ =
     let i = (formula_read names taken quantifier_level a).read last 0 σ tt (omega (arith, h)) in
     (i.tree, (i.level, i.from, i.to, i.operand), i.is)
 
-somewhere_term : (names : List (List ℕ)) (t : Term) → term_openings quantifier_level t ≤ limit → Somewhere (term_tokens names quantifier_level t) (term_tree names t)
+somewhere_term : (names : List (List ℕ)) (t : Term) → term_openings quantifier_level t ≤ limit
+    → Somewhere (term_tokens names quantifier_level t) (term_tree names t)
 somewhere_term names t h σ =
     let i = (term_read names quantifier_level t).read last 0 σ tt (omega (arith, h)) in
     (i.tree, (i.level, i.from, i.to, i.operand), i.is)
 
-pub formula_reads : (names taken : List (List ℕ)) (a : Formula) → All IsFreeName names → IsPrintable (length names) a → formula_openings quantifier_level a ≤ limit
+pub formula_reads : (names taken : List (List ℕ)) (a : Formula) → All IsFreeName names → IsPrintable (length names) a
+    → formula_openings quantifier_level a ≤ limit
     → ReadsAs (formula_text names taken a) (formula_tree names taken a)
 formula_reads names taken a h p l =
-    reads_as (formula_tokens names taken quantifier_level a) (formula_tree names taken a) (formula_spelled names taken quantifier_level a h p) (somewhere_formula names taken a l)
+    reads_as (formula_tokens names taken quantifier_level a) (formula_tree names taken a)
+    (formula_spelled names taken quantifier_level a h p) (somewhere_formula names taken a l)
 
-pub term_reads : (names : List (List ℕ)) (t : Term) → All IsFreeName names → IsPrintableTerm (length names) t → term_openings quantifier_level t ≤ limit
+pub term_reads : (names : List (List ℕ)) (t : Term) → All IsFreeName names → IsPrintableTerm (length names) t
+    → term_openings quantifier_level t ≤ limit
     → ReadsAs (term_text names t) (term_tree names t)
-term_reads names t h p l = reads_as (term_tokens names quantifier_level t) (term_tree names t) (term_spelled names quantifier_level t h p) (somewhere_term names t l)
+term_reads names t h p l =
+    reads_as (term_tokens names quantifier_level t) (term_tree names t) (term_spelled names quantifier_level t h p)
+    (somewhere_term names t l)
 
 -- and no text at a token of which more openings are open is an expression
 pub formula_limit : (names taken : List (List ℕ)) (a : Formula) (r : Expression) → All IsFreeName names → IsPrintable (length names) a
@@ -101,26 +107,33 @@ sentence_text : (w x : List ℕ) (ks : List Kind) → Starts ks → spell (sente
 sentence_text w x [] h = absurd h
 sentence_text w x (k ∷ ks) h =
     let stop : spell_behind k (ks ++ (other token.FullStop ∷ [])) ≡ spell_behind k ks ++ (46 ∷ []) = behind_stop ks k in
-    ap (λ g. w ++ (codes " " ++ (x ++ (codes " :" ++ (g ++ (spelling k ++ spell_behind k (ks ++ (other token.FullStop ∷ []))))))))  h
-    ∙ ap (λ r. w ++ (codes " " ++ (x ++ (codes " : " ++ r)))) (ap (λ r. spelling k ++ r) stop ∙ sym (append_assoc (spelling k) (spell_behind k ks) (46 ∷ [])))
+    ap (λ g. w ++ (codes " " ++ (x ++ (codes " :" ++ (g ++ (spelling k ++ spell_behind k (ks ++ (other token.FullStop ∷ [])))))))) h
+    ∙ ap (λ r. w ++ (codes " " ++ (x ++ (codes " : " ++ r))))
+    (ap (λ r. spelling k ++ r) stop ∙ sym (append_assoc (spelling k) (spell_behind k ks) (46 ∷ [])))
 
--- what a printed list of tokens is like
-record Printed (ks : List Kind) : Type 0 where
+-- what a sentence with a printed part is like: its word, its name and the tokens of the part
+record Printed (w x : List ℕ) (ks : List Kind) : Type 0 where
+  pub word : IsFreeName w
+  pub name : IsFreeName x
   pub spelled : AreSpelled ks
   pub starts : Starts ks
 
 -- the tokens of a whole sentence of which one part is printed, with their spans
 spread : (w x : List ℕ) (ks : List Kind) (σ : ℕ → Span) → List Lexeme
-spread w x ks σ = word w (σ 0) ∷ spelled (named x (σ 1)) ∷ tok colon (σ 2) ∷ (laid (λ i. σ (suc (suc (suc i)))) ks ++ (stop (past ks (λ i. σ (suc (suc (suc i)))) zero) ∷ []))
+spread w x ks σ = word w (σ 0) ∷ spelled (named x (σ 1)) ∷ tok colon (σ 2) ∷
+    (laid (λ i. σ (suc (suc (suc i)))) ks ++ (stop (past ks (λ i. σ (suc (suc (suc i)))) zero) ∷ []))
 
-sentence_lexemes : (w x : List ℕ) (ks : List Kind) → IsFreeName w → IsFreeName x → Printed ks
-    → lexemes (spell (sentence_tokens w x ks)) (tokens_of (spell (sentence_tokens w x ks))) ≡ spread w x ks (spans (stand (sentence_tokens w x ks)))
+sentence_lexemes : (w x : List ℕ) (ks : List Kind) → Printed w x ks
+    → lexemes (spell (sentence_tokens w x ks)) (tokens_of (spell (sentence_tokens w x ks))) ≡ spread w x ks
+    (spans (stand (sentence_tokens w x ks)))
 unfolding spread
-sentence_lexemes w x ks f g p =
+sentence_lexemes w x ks p =
     let all = sentence_tokens w x ks in
     let σ = spans (stand all) in
-    let written : IsWritten all = written_stop (name w ∷ name x ∷ colon ∷ ks) (f, (g, (tt, p.spelled))) in
-    text_tokens all written ∙ ap (λ ts. word w (σ 0) ∷ spelled (named x (σ 1)) ∷ tok colon (σ 2) ∷ ts) (laid_append (λ i. σ (suc (suc (suc i)))) ks (other token.FullStop ∷ []))
+    let written : IsWritten all = written_stop (name w ∷ name x ∷ colon ∷ ks) (p.word, (p.name, (tt, p.spelled))) in
+    text_tokens all written
+    ∙ ap (λ ts. word w (σ 0) ∷ spelled (named x (σ 1)) ∷ tok colon (σ 2) ∷ ts)
+    (laid_append (λ i. σ (suc (suc (suc i)))) ks (other token.FullStop ∷ []))
 
 -- the row of the grammar for a sentence that begins with such a word, whatever its spans
 abbrev Row : {A : Type 0} → (List Lexeme → A → Type 0) → (Name → A → Sentence) → List ℕ → Type 0
@@ -128,67 +141,76 @@ Row {A} part tree w =
     (text : List ℕ) (ts : List Lexeme) (t : A) (x : Name) (a b c : Span) → part ts t
     → IsSentence text (word w a ∷ spelled x ∷ tok colon b ∷ (ts ++ (stop c ∷ []))) (tree x t)
 
-begins_with : (w x : List ℕ) (ks : List Kind) (r : Expression) → Row IsExpression begin w → IsFreeName w → IsFreeName x → Printed ks → Somewhere ks r
+begins_with : (w x : List ℕ) (ks : List Kind) (r : Expression) → Row IsExpression begin w → Printed w x ks → Somewhere ks r
     → BeginsWith (sentence_of w x (spell ks)) x r
 unfolding spread
-begins_with w x ks r row f g p e =
+begins_with w x ks r row p e =
     let all = sentence_tokens w x ks in
     let σ = spans (stand all) in
     let (t, i, is) = e (λ i. σ (suc (suc (suc i)))) in
     let whole : IsSentence (spell all) (spread w x ks σ) (begin (named x (σ 1)) t) =
     row (spell all) (laid (λ i. σ (suc (suc (suc i)))) ks) t (named x (σ 1)) (σ 0) (σ 2) (past ks (λ i. σ (suc (suc (suc i)))) zero) i in
     subst (λ text. BeginsWith text x r) (sentence_text w x ks p.starts)
-    (t, σ 1, subst (λ ts. IsSentence (spell all) ts (begin (named x (σ 1)) t)) (sym (sentence_lexemes w x ks f g p)) whole, is)
+    (t, σ 1, subst (λ ts. IsSentence (spell all) ts (begin (named x (σ 1)) t)) (sym (sentence_lexemes w x ks p)) whole, is)
 
 -- with any spans, the tokens are a shape with this tree
 abbrev SomewhereShape : List Kind → Shape → Type 0
 SomewhereShape ks q = (σ : ℕ → Span) → (s : Shape) × IsShape (laid σ ks) s × (spanless_shape s ≡ q)
 
-declares_as : (w x : List ℕ) (ks : List Kind) (q : Shape) → Row IsShape declare w → IsFreeName w → IsFreeName x → Printed ks → SomewhereShape ks q
+declares_as : (w x : List ℕ) (ks : List Kind) (q : Shape) → Row IsShape declare w → Printed w x ks → SomewhereShape ks q
     → DeclaresAs (sentence_of w x (spell ks)) x q
 unfolding spread
-declares_as w x ks q row f g p e =
+declares_as w x ks q row p e =
     let all = sentence_tokens w x ks in
     let σ = spans (stand all) in
     let (s, i, is) = e (λ i. σ (suc (suc (suc i)))) in
     let whole : IsSentence (spell all) (spread w x ks σ) (declare (named x (σ 1)) s) =
     row (spell all) (laid (λ i. σ (suc (suc (suc i)))) ks) s (named x (σ 1)) (σ 0) (σ 2) (past ks (λ i. σ (suc (suc (suc i)))) zero) i in
     subst (λ text. DeclaresAs text x q) (sentence_text w x ks p.starts)
-    (s, σ 1, subst (λ ts. IsSentence (spell all) ts (declare (named x (σ 1)) s)) (sym (sentence_lexemes w x ks f g p)) whole, is)
+    (s, σ 1, subst (λ ts. IsSentence (spell all) ts (declare (named x (σ 1)) s)) (sym (sentence_lexemes w x ks p)) whole, is)
 
 -- ---- the four words
 
--- a formula that can be printed within the limit
-pub record IsShown (names : List (List ℕ)) (a : Formula) : Type 0 where
-  pub free : All IsFreeName names
-  pub printable : IsPrintable (length names) a
-  pub openings : formula_openings quantifier_level a ≤ limit
+printed : (w x : List ℕ) (names taken : List (List ℕ)) (a : Formula) → IsFreeName w → IsFreeName x → IsShown names a
+    → Printed w x (formula_tokens names taken quantifier_level a)
+printed w x names taken a f g s = record {
+  word = f;
+  name = g;
+  spelled = formula_spelled names taken quantifier_level a s.free s.printable;
+  starts = formula_starts names taken quantifier_level a;
+}
 
-printed : (names taken : List (List ℕ)) (a : Formula) → IsShown names a → Printed (formula_tokens names taken quantifier_level a)
-printed names taken a s = record { spelled = formula_spelled names taken quantifier_level a s.free s.printable; starts = formula_starts names taken quantifier_level a }
-
-somewhere_shape : (names taken : List (List ℕ)) (a : Formula) → IsShown names a → SomewhereShape (formula_tokens names taken quantifier_level a) (formula_shape names taken a)
+somewhere_shape : (names taken : List (List ℕ)) (a : Formula) → IsShown names a
+    → SomewhereShape (formula_tokens names taken quantifier_level a) (formula_shape names taken a)
 somewhere_shape names taken a h σ =
     let room = h.openings in
     let i = (shape_read names taken a).read 0 σ (omega (arith, room)) in
     (i.shape, i.read, i.is)
 
-pub lemma_begins : (names taken : List (List ℕ)) (x : List ℕ) (a : Formula) → IsFreeName x → IsShown names a → BeginsWith (sentence_of (codes "Lemma") x (formula_text names taken a)) x (formula_tree names taken a)
+pub lemma_begins : (names taken : List (List ℕ)) (x : List ℕ) (a : Formula) → IsFreeName x → IsShown names a
+    → BeginsWith (sentence_of (codes "Lemma") x (formula_text names taken a)) x (formula_tree names taken a)
 lemma_begins names taken x a f s =
-    begins_with (codes "Lemma") x (formula_tokens names taken quantifier_level a) (formula_tree names taken a) (λ text ts t x a b c i. lemma x a b c i)
-    (omega arith, refl, refl) f (printed names taken a s) (somewhere_formula names taken a s.openings)
+    begins_with (codes "Lemma") x (formula_tokens names taken quantifier_level a) (formula_tree names taken a)
+    (λ text ts t x a b c i. lemma x a b c i)
+    (printed (codes "Lemma") x names taken a (omega arith, refl, refl) f s) (somewhere_formula names taken a s.openings)
 
-pub theorem_begins : (names taken : List (List ℕ)) (x : List ℕ) (a : Formula) → IsFreeName x → IsShown names a → BeginsWith (sentence_of (codes "Theorem") x (formula_text names taken a)) x (formula_tree names taken a)
+pub theorem_begins : (names taken : List (List ℕ)) (x : List ℕ) (a : Formula) → IsFreeName x → IsShown names a
+    → BeginsWith (sentence_of (codes "Theorem") x (formula_text names taken a)) x (formula_tree names taken a)
 theorem_begins names taken x a f s =
-    begins_with (codes "Theorem") x (formula_tokens names taken quantifier_level a) (formula_tree names taken a) (λ text ts t x a b c i. theorem x a b c i)
-    (omega arith, refl, refl) f (printed names taken a s) (somewhere_formula names taken a s.openings)
+    begins_with (codes "Theorem") x (formula_tokens names taken quantifier_level a) (formula_tree names taken a)
+    (λ text ts t x a b c i. theorem x a b c i)
+    (printed (codes "Theorem") x names taken a (omega arith, refl, refl) f s) (somewhere_formula names taken a s.openings)
 
-pub parameter_declares : (names taken : List (List ℕ)) (x : List ℕ) (a : Formula) → IsFreeName x → IsShown names a → DeclaresAs (sentence_of (codes "Parameter") x (formula_text names taken a)) x (formula_shape names taken a)
+pub parameter_declares : (names taken : List (List ℕ)) (x : List ℕ) (a : Formula) → IsFreeName x → IsShown names a
+    → DeclaresAs (sentence_of (codes "Parameter") x (formula_text names taken a)) x (formula_shape names taken a)
 parameter_declares names taken x a f s =
-    declares_as (codes "Parameter") x (formula_tokens names taken quantifier_level a) (formula_shape names taken a) (λ text ts t x a b c i. parameter x a b c i)
-    (omega arith, refl, refl) f (printed names taken a s) (somewhere_shape names taken a s)
+    declares_as (codes "Parameter") x (formula_tokens names taken quantifier_level a) (formula_shape names taken a)
+    (λ text ts t x a b c i. parameter x a b c i)
+    (printed (codes "Parameter") x names taken a (omega arith, refl, refl) f s) (somewhere_shape names taken a s)
 
-pub axiom_declares : (names taken : List (List ℕ)) (x : List ℕ) (a : Formula) → IsFreeName x → IsShown names a → DeclaresAs (sentence_of (codes "Axiom") x (formula_text names taken a)) x (formula_shape names taken a)
+pub axiom_declares : (names taken : List (List ℕ)) (x : List ℕ) (a : Formula) → IsFreeName x → IsShown names a
+    → DeclaresAs (sentence_of (codes "Axiom") x (formula_text names taken a)) x (formula_shape names taken a)
 axiom_declares names taken x a f s =
-    declares_as (codes "Axiom") x (formula_tokens names taken quantifier_level a) (formula_shape names taken a) (λ text ts t x a b c i. axiom_sentence x a b c i)
-    (omega arith, refl, refl) f (printed names taken a s) (somewhere_shape names taken a s)
+    declares_as (codes "Axiom") x (formula_tokens names taken quantifier_level a) (formula_shape names taken a)
+    (λ text ts t x a b c i. axiom_sentence x a b c i)
+    (printed (codes "Axiom") x names taken a (omega arith, refl, refl) f s) (somewhere_shape names taken a s)

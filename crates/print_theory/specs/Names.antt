@@ -22,7 +22,8 @@ abbrev pub free_from : ℕ → ℕ → List ℕ → List (List ℕ) → List ℕ
 free_from zero k x used = numbered x k
 free_from (suc most) k x used = if is_among (numbered x k) used then free_from most (k + 1) x used else numbered x k
 
--- the name itself, where it isn't used; else the name with the least number with which it isn't. As many tries as there are names are enough.
+-- The name itself, where it isn't used; else the name with the least number with which it isn't. As many tries as there are names
+-- are enough.
 abbrev pub picked : List ℕ → List (List ℕ) → List ℕ
 picked x used = if is_among x used then free_from (length used) 0 x used else x
 

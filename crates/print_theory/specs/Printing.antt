@@ -1,5 +1,5 @@
 -- Terms and formulas as lists of the grammar's tokens.
-use Rattle.std.specs.Prelude.{ℕ, zero, suc, ◌+◌, ◌<◌, List, [], ◌∷◌, ◌++◌, max, Bool, true, false, nat_lt, if◌then◌else◌}
+use Rattle.std.specs.Prelude.{ℕ, suc, ◌+◌, ◌<◌, List, [], ◌∷◌, ◌++◌, max, Bool, true, false, nat_lt, if◌then◌else◌}
 use Rattle.vern_grammar.specs.Trees.{Operator, implication, disjunction, conjunction, equation}
 use Rattle.vern_grammar.specs.Kinds.{Kind, name, constant, sign, quantifier, opening, closing, colon, comma}
 use Rattle.vern_grammar.specs.Levels.{op_level, left_at_most, right_at_most}
@@ -99,7 +99,8 @@ abbrev pub formula_openings : ℕ → Formula → ℕ
 formula_openings most truth = 0
 formula_openings most falsity = 0
 formula_openings most (pred p ts) = parentheses most (application_level ts) + arguments_openings ts
-formula_openings most (equal s t u) = joined_openings most equation (term_openings (left_at_most equation) t) (term_openings (right_at_most equation) u)
+formula_openings most (equal s t u) =
+    joined_openings most equation (term_openings (left_at_most equation) t) (term_openings (right_at_most equation) u)
 formula_openings most (both a b) =
     joined_openings most conjunction (formula_openings (left_at_most conjunction) a) (formula_openings (right_at_most conjunction) b)
 formula_openings most (either a b) =

@@ -21,7 +21,8 @@ pub fn printed_names_tell_their_variables()
     ensures variable { (names : List (List ℕ)) (i : ℕ) → IsDistinct names → i < length names → position (name_of names i) names ≡ Some i }
     ensures no_variable { (names : List (List ℕ)) (c : List ℕ) → is_among c names ≡ false → position c names ≡ None }
     ensures distinct { (names taken : List (List ℕ)) (x : List ℕ) → IsDistinct names → IsDistinct (bound_name names taken x ∷ names) }
-    ensures apart { (names taken : List (List ℕ)) (x c : List ℕ) → IsApart names taken c → IsApart (bound_name names taken x ∷ names) taken c }
+    ensures apart { (names taken : List (List ℕ)) (x c : List ℕ) → IsApart names taken c
+        → IsApart (bound_name names taken x ∷ names) taken c }
     ensures formula_apart { (names taken : List (List ℕ)) (x : List ℕ) (a : Formula) → IsApartFormula names taken a
         → IsApartFormula (bound_name names taken x ∷ names) taken a }
 {}

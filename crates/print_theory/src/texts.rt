@@ -25,9 +25,9 @@ pub fn printed_text_reads_back()
         → formula_openings quantifier_level a ≤ limit → ReadsAs (formula_text names taken a) (formula_tree names taken a) }
     ensures term { (names : List (List ℕ)) (t : Term) → All IsFreeName names → IsPrintableTerm (length names) t
         → term_openings quantifier_level t ≤ limit → ReadsAs (term_text names t) (term_tree names t) }
-    ensures formula_limit { (names taken : List (List ℕ)) (a : Formula) (r : Expression) → All IsFreeName names → IsPrintable (length names) a
-        → ReadsAs (formula_text names taken a) r → formula_openings quantifier_level a ≤ limit }
-    ensures term_limit { (names : List (List ℕ)) (t : Term) (r : Expression) → All IsFreeName names → IsPrintableTerm (length names) t
-        → ReadsAs (term_text names t) r → term_openings quantifier_level t ≤ limit }
+    ensures formula_limit { (names taken : List (List ℕ)) (a : Formula) (r : Expression) → All IsFreeName names
+        → IsPrintable (length names) a → ReadsAs (formula_text names taken a) r → formula_openings quantifier_level a ≤ limit }
+    ensures term_limit { (names : List (List ℕ)) (t : Term) (r : Expression) → All IsFreeName names
+        → IsPrintableTerm (length names) t → ReadsAs (term_text names t) r → term_openings quantifier_level t ≤ limit }
     ensures once { (text : List ℕ) (r q : Expression) → ReadsAs text r → ReadsAs text q → r ≡ q }
 {}
