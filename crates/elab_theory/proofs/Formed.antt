@@ -85,7 +85,8 @@ use Rattle.elab_theory.proofs.Results.{ok_is, never, steps, passed}
 
 -- ---- names
 
-abbrev IsKnown : List Declaration → List Local → List ℕ → Known → Type 0
+-- what is so of a name that stands for this
+abbrev pub IsKnown : List Declaration → List Local → List ℕ → Known → Type 0
 IsKnown E c n (bound i s) = At (sorts_in c) i s
 IsKnown E c n assumed = Unit {0}
 IsKnown E c n (declared d) = find E n ≡ Some d
