@@ -1,7 +1,7 @@
 use Rattle.std.proofs.Common.{arith}
 use Rattle.std.proofs.lemmas.Bool.Decides.{nat_tests}
 use Rattle.sexp_core.proofs.Fronts.{looked, seen_within, front-empty, gives-empty, front-more, gives-more, gives-whole, whole-of_bytes, whole-shallow, gives-bad}
-use Rattle.sexp_core.proofs.reader.Reader.next.Goals as goal
+use Rattle.sexp_core.proofs.reader.Reader.take_item.Goals as goal
 
 pub scan-requires-clause-within : goal.scan-requires-clause-within
 scan-requires-clause-within c =
