@@ -1,8 +1,8 @@
 //! The items of an input that comes in pieces.
 ghost use Rattle.std.specs.Prelude.{◌≡◌, ◌+◌, ◌≤◌, ◌^◌, length, drop, false, None, IfOk, IfSome, OnErr};
-ghost use Rattle.sexp_theory.specs.Items.{fed, fresh, most_bytes, taken};
+ghost use Rattle.sexp_theory.specs.Items.{fed, fresh, most_bytes, next_item};
 ghost use Rattle.sexp_theory.specs.Written.{IsOfBytes, IsShallow};
-ghost use Rattle.sexp_core.specs.Reading.{Finishes, Gives, item_meaning};
+ghost use Rattle.sexp_core.specs.Readers.{Finishes, Gives, item_meaning};
 
 use crate::item::{Finish, Item};
 use crate::machine::Machine;
@@ -21,7 +21,7 @@ const MOST_BYTES: u64 = 1_048_576;
 /// fed, whether they begin in a line that is passed over behind a bad place (or in a comment), and the most bytes
 /// that an item may have. No clause says how often a byte is looked at: the bytes of an item that isn't whole yet
 /// are not looked at again because more is fed, but after `NoMemory`. Nor does one say how much memory is held: behind
-/// a None the reader keeps less than twice the bytes of the item that isn't whole.
+/// a None the reader keeps at most twice the bytes of the item that isn't whole.
 #[derive(Drop)]
 pub struct Reader {
     bytes: Vec<u8>,
@@ -31,7 +31,7 @@ pub struct Reader {
 }
 
 impl Model for Reader {
-    ghost use Rattle.sexp_core.specs.Reading.{Reading};
+    ghost use Rattle.sexp_core.specs.Readers.{Reading};
     ghost use Rattle.sexp_core.specs.Progress.{IsFront, unread_from};
 
     ghost Value = { Reading };
@@ -78,7 +78,7 @@ impl Reader {
         Ok(())
     }
 
-    /// Lets go of bytes that were given, where they are more than those that weren't: then what is kept is less than
+    /// Lets go of bytes that were given, where they are more than those that weren't: then what is kept is at most
     /// twice what is unread.
     fn compact(&mut self)
         ensures { self.new ≡ self.old }
@@ -145,11 +145,11 @@ impl Reader {
                 self.front = unseen(front.start + (to - front.at) as usize, to, false);
                 Ok(Some(Item::Value(value, from, to)))
             }
-            Ok(Scanned::Bad(kind, place)) => {
+            Ok(Scanned::Bad(kind, offset)) => {
                 self.machine.clear();
-                let before = place.saturating_sub(front.at) as usize;
-                self.front = behind_line(&self.bytes, front.start + before, place);
-                Ok(Some(Item::Bad(place, kind)))
+                let before = offset.saturating_sub(front.at) as usize;
+                self.front = behind_line(&self.bytes, front.start + before, offset);
+                Ok(Some(Item::Bad(offset, kind)))
             }
         }
     }
@@ -157,7 +157,7 @@ impl Reader {
     /// The last item of an input that ends here, and how it ends, asked once `next` has given None. The reader is used
     /// up, after `NoMemory` too.
     pub fn finish(mut self) -> Result<Finish, NoMemory>
-        requires { taken self.limit false self.unread ≡ None }
+        requires { next_item self.limit false self.unread ≡ None }
         ensures given { IfOk result (λ finish. Finishes self finish) }
         ensures of_bytes { IfOk result (λ finish. IfSome finish.last (λ i. IsOfBytes (item_meaning i))) }
         ensures shallow { IfOk result (λ finish. IfSome finish.last (λ i. IsShallow (item_meaning i))) }
