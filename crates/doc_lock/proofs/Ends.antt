@@ -35,8 +35,15 @@ module _ {S E O : Type 0} (list : S → List E) (author : E → ℕ) (origin : S
 
   first_alone : (j : ℕ) (d : D) → get_elem? (beginning ∷ []) j ≡ some d → Fits author [] 1 1 None (λ _. 0) j d
   first_alone zero d e = subst (λ (z : D). Fits author [] 1 1 None (λ _. 0) 0 z) (some-injective beginning d e)
-      record { here = refl; below = omega arith; begins = begins_same []; own = only_nil author 0; joined = tt; based = refl;
-          holder = λ h. absurd (true≢false (sym h)) }
+      record {
+        here = refl;
+        below = omega arith;
+        begins = begins_same [];
+        own = only_nil author 0;
+        joined = tt;
+        based = refl;
+        holder = λ h. absurd (true≢false (sym h));
+      }
   first_alone (suc j) d e = absurd (some-ne-none d (sym e))
 
   pub opens : Rule (opening (1 ∷ 0 ∷ []) (None ∷ []) beginning)
@@ -47,8 +54,12 @@ module _ {S E O : Type 0} (list : S → List E) (author : E → ℕ) (origin : S
     base = None;
     owner = λ _. 0;
     words = refl;
-    slot = inr (inr record { empty = refl; no_entry = refl; no_origin = refl;
-        waits = record { seat = 0; view = beginning; at = refl; live = refl; has = refl } });
+    slot = inr (inr record {
+      empty = refl;
+      no_entry = refl;
+      no_origin = refl;
+      waits = record { seat = 0; view = beginning; at = refl; live = refl; has = refl };
+    });
     first = record { seat = 0; view = beginning; at = refl; live = refl; has = (refl, refl) };
     named = tt;
     alone = λ _. (refl, refl);
@@ -75,7 +86,7 @@ module _ {S E O : Type 0} (list : S → List E) (author : E → ℕ) (origin : S
   none_holds s r id v at live free zeroth all out = let a = out.holder in let u : D = a.view in let fit = r.each id v at live in
       let fut = r.each a.seat u a.at a.live in
       let same : a.seat ≡ id = dite (ℕ_discrete u.number 0)
-          (λ z. one_seat list author origin s r a.seat id u v a.at a.live at live (z ∙ sym zeroth))
+      (λ z. one_seat list author origin s r a.seat id u v a.at a.live at live (z ∙ sym zeroth))
       (λ nz. let b = fut.below in let count : v.made ≡ r.made = counted list author origin s r id v at live zeroth in
       sym fut.here ∙ belongs r.log r.made r.owner id v.number u.number v.joined (all u.number (omega arith) (omega arith)) fit.joined) in
       true≢false (sym a.has ∙ (ap (λ (d : D). d.holds) (same_view s.views a.seat id u v a.at at same) ∙ free))
@@ -96,8 +107,11 @@ module _ {S E O : Type 0} (list : S → List E) (author : E → ℕ) (origin : S
             begins = subst (Begins v.seen) is fit.begins;
             own = ap (only author v.number) home.entries ∙ fit.own;
             joined = each_map (Joined author r.log r.made r.owner id v.number) (λ p. Begins p.seen (list x)
-                × (only author p.number (list x) ≡ p.mine)) (λ p h. (subst (Begins p.seen) is h.4, ap (only author p.number) home.entries
-                ∙ h.3)) v.joined fit.joined;
+                × (only author p.number (list x) ≡ p.mine)) (λ p h. (
+                  subst (Begins p.seen) is h.4,
+                  ap (only author p.number) home.entries
+                      ∙ h.3,
+                )) v.joined fit.joined;
             based = fit.based ∙ home.based;
           },
           subst (Each (λ e. author e < v.made)) is (each_map (λ e. author e < r.made) (λ e. author e < v.made)

@@ -93,15 +93,21 @@ module _ {S E O : Type 0} (list : S → List E) (author : E → ℕ) (origin : S
         (f.each j d at live).joined;
     based = λ j d at live. (f.each j d at live).based;
     alone = f.alone;
-    owned = λ j d at live. ((f.each j d at live).here,
-        each_map (Joined author f.log f.made f.owner j d.number) (λ p. f.owner p.number ≡ j) (λ p h. h.0) d.joined
-        (f.each j d at live).joined);
+    owned = λ j d at live. (
+      (f.each j d at live).here,
+      each_map (Joined author f.log f.made f.owner j d.number) (λ p. f.owner p.number ≡ j) (λ p h. h.0) d.joined
+          (f.each j d at live).joined,
+    );
     apart = λ j d at live. each_map (Joined author f.log f.made f.owner j d.number) (λ p. p.number ≢ d.number) (λ p h. h.2) d.joined
         (f.each j d at live).joined;
-    seen = λ j d at live. ((f.each j d at live).begins,
-        each_map (Joined author f.log f.made f.owner j d.number) (λ p. Begins p.seen f.log) (λ p h. h.4) d.joined
-        (f.each j d at live).joined);
-    own = λ j d at live. ((f.each j d at live).own,
-        each_map (Joined author f.log f.made f.owner j d.number) (λ p. only author p.number f.log ≡ p.mine) (λ p h. h.3) d.joined
-        (f.each j d at live).joined);
+    seen = λ j d at live. (
+      (f.each j d at live).begins,
+      each_map (Joined author f.log f.made f.owner j d.number) (λ p. Begins p.seen f.log) (λ p h. h.4) d.joined
+          (f.each j d at live).joined,
+    );
+    own = λ j d at live. (
+      (f.each j d at live).own,
+      each_map (Joined author f.log f.made f.owner j d.number) (λ p. only author p.number f.log ≡ p.mine) (λ p h. h.3) d.joined
+          (f.each j d at live).joined,
+    );
   }

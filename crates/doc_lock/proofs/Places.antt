@@ -47,16 +47,25 @@ module _ {E O : Type 0} where
   pub some_stays : (P : View E O → Type 0) (vs : List (View E O)) (id : ℕ) (v w : View E O) → get_elem? vs id ≡ some v → w.live ≡ true
       → (P v → P w) → SomeLive vs P → SomeLive (set vs id w) P
   some_stays P vs id v w at live on a = dite (ℕ_discrete a.seat id)
-      (λ same. record { seat = id; view = w; at = here_set vs id v w at; live = live;
-          has = on (subst P (same_view vs a.seat id a.view v a.at at same) a.has) })
+      (λ same. record {
+        seat = id;
+        view = w;
+        at = here_set vs id v w at;
+        live = live;
+        has = on (subst P (same_view vs a.seat id a.view v a.at at same) a.has);
+      })
       (λ other. record { seat = a.seat; view = a.view; at = set_else vs id a.seat w other ∙ a.at; live = a.live; has = a.has })
 
   -- where P didn't hold of the view that changed,
   pub some_other : (P : View E O → Type 0) (vs : List (View E O)) (id : ℕ) (v w : View E O) → get_elem? vs id ≡ some v → (P v → ⊥)
       → SomeLive vs P → SomeLive (set vs id w) P
-  some_other P vs id v w at not a = record { seat = a.seat; view = a.view;
-      at = set_else vs id a.seat w (λ same. not (subst P (same_view vs a.seat id a.view v a.at at same) a.has)) ∙ a.at; live = a.live;
-      has = a.has }
+  some_other P vs id v w at not a = record {
+    seat = a.seat;
+    view = a.view;
+    at = set_else vs id a.seat w (λ same. not (subst P (same_view vs a.seat id a.view v a.at at same) a.has)) ∙ a.at;
+    live = a.live;
+    has = a.has;
+  }
 
   -- and where one view more comes
   pub some_longer : (P : View E O → Type 0) (vs more : List (View E O)) → SomeLive vs P → SomeLive (vs ++ more) P

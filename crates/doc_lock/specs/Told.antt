@@ -55,8 +55,20 @@ module _ {S E O : Type 0} where
 module _ {S E O : Type 0} (origin : S → O) where
   -- of a lock over x
   abbrev pub starting : S → View E O
-  starting x = record { number = 0; live = true; holds = false; origin = Some (origin x); seen = []; mine = []; joined = []; tries = 0;
-      found = 0; looks = 0; told = 0; made = 1 }
+  starting x = record {
+    number = 0;
+    live = true;
+    holds = false;
+    origin = Some (origin x);
+    seen = [];
+    mine = [];
+    joined = [];
+    tries = 0;
+    found = 0;
+    looks = 0;
+    told = 0;
+    made = 1;
+  }
 
 -- ---- tries
 

@@ -13,8 +13,20 @@ use Rattle.doc_lock.specs.Lists.{Each, longer, only}
 module _ {E O : Type 0} where
   -- seat 0 as the table is made: the flag is its, it doesn't have the slot yet, and it knows no origin
   abbrev pub beginning : View E O
-  beginning = record { number = 0; live = true; holds = false; origin = None; seen = []; mine = []; joined = []; tries = 0; found = 0;
-      looks = 0; told = 0; made = 1 }
+  beginning = record {
+    number = 0;
+    live = true;
+    holds = false;
+    origin = None;
+    seen = [];
+    mine = [];
+    joined = [];
+    tries = 0;
+    found = 0;
+    looks = 0;
+    told = 0;
+    made = 1;
+  }
 
   -- the seat has the slot
   abbrev pub taking : View E O → View E O
@@ -34,8 +46,20 @@ module _ {E O : Type 0} where
 
   -- and the new seat has that number, and has seen as much
   abbrev pub split_off : View E O → View E O
-  split_off v = record { number = v.made; live = true; holds = false; origin = v.origin; seen = v.seen; mine = []; joined = []; tries = 0;
-      found = 0; looks = 0; told = 0; made = 0 }
+  split_off v = record {
+    number = v.made;
+    live = true;
+    holds = false;
+    origin = v.origin;
+    seen = v.seen;
+    mine = [];
+    joined = [];
+    tries = 0;
+    found = 0;
+    looks = 0;
+    told = 0;
+    made = 0;
+  }
 
   -- ---- a seat is joined into another
 
@@ -49,8 +73,20 @@ module _ {E O : Type 0} where
 
   -- what stays of it among the views
   abbrev pub spent : View E O
-  spent = record { number = 0; live = false; holds = false; origin = None; seen = []; mine = []; joined = []; tries = 0; found = 0;
-      looks = 0; told = 0; made = 0 }
+  spent = record {
+    number = 0;
+    live = false;
+    holds = false;
+    origin = None;
+    seen = [];
+    mine = [];
+    joined = [];
+    tries = 0;
+    found = 0;
+    looks = 0;
+    told = 0;
+    made = 0;
+  }
 
   -- ---- the flag is tried
 

@@ -68,8 +68,10 @@ Wrote n p = p.mine ≡ notes_by p.number n
 pub all_wrote : (all wrote : Result (Unit {0}) NoMemory) (Q : ℕ → Type 0) (v w : View Note ℕ)
     → IfOk all (λ _. (n : ℕ) → Q n → Each (Wrote n) v.joined) → ((n : ℕ) → Q n → HasWritten n wrote w × (w.joined ≡ []))
     → IfOk (result_and all wrote) (λ _. (n : ℕ) → Q n → Each (Wrote n) (folded w ∷ (v.joined ++ w.joined)))
-all_wrote (Ok _) (Ok _) Q v w h k = λ n q. ((k n q).0,
-    each_append (Wrote n) v.joined w.joined (h n q) (subst (Each (Wrote n)) (sym (k n q).1) tt))
+all_wrote (Ok _) (Ok _) Q v w h k = λ n q. (
+  (k n q).0,
+  each_append (Wrote n) v.joined w.joined (h n q) (subst (Each (Wrote n)) (sym (k n q).1) tt),
+)
 all_wrote (Ok _) (Err _) Q v w h k = tt
 all_wrote (Err _) _ Q v w h k = tt
 
@@ -83,7 +85,7 @@ joined_wrote n k log (p ∷ ps) h own wrote = ⊎_elim (λ (e : p.number ≡ k).
 pub seats_wrote : (n k : ℕ) (log : List Note) (v : View Note ℕ) → v.number ≡ 0 → of_seat v.number log ≡ v.mine
     → v.mine ≡ notes_by v.number n → Covers v
     → Each (λ p. Begins p.seen log × (of_seat p.number log ≡ p.mine)) v.joined → Each (Wrote n) v.joined → k < v.made
-        → of_seat k log ≡ notes_by k n
+    → of_seat k log ≡ notes_by k n
 seats_wrote n k log v zeroth own mine all joined wrote low =
     dite (ℕ_discrete k 0) (λ e. subst (λ j. of_seat j log ≡ notes_by j n) (zeroth ∙ sym e) (own ∙ mine))
     (λ ne. joined_wrote n k log v.joined (all k (omega arith) low) joined wrote)

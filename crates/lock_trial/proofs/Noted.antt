@@ -21,7 +21,7 @@ adds_noted (Err _) n what log now same = ([], same ∙ sym (append-nil log), tt)
 pub mine_grows : {A B : Type 0} (r : Result A B) (n what : ℕ) (log now mine mine' : List Note) → only by n log ≡ mine
     → mine' ≡ only by n now
     → MatchResult r (λ _. now ≡ log ++ note n what ∷ []) (λ _. now ≡ log)
-        → MatchResult r (λ _. mine' ≡ mine ++ note n what ∷ []) (λ _. mine' ≡ mine)
+    → MatchResult r (λ _. mine' ≡ mine ++ note n what ∷ []) (λ _. mine' ≡ mine)
 mine_grows (Ok _) n what log now mine mine' own is more = is
     ∙ (adds_own by n log now (one_more n what log now more) ∙ ap (λ l. l ++ note n what ∷ []) own)
 mine_grows (Err _) n what log now mine mine' own is same = is ∙ (ap (only by n) same ∙ own)

@@ -21,7 +21,7 @@ take_while_stops p [] ys y _ e = take_while-cons p y ys ∙ ap (λ b. cond b (y 
 take_while_stops p (x ∷ xs) ys y a e =
     let parts = and_parts (p x) (list_all p xs) a in
     take_while-cons p x (xs ++ y ∷ ys) ∙ ap (λ b. cond b (x ∷ take_while p (xs ++ y ∷ ys)) []) parts.0
-        ∙ ap (λ zs. x ∷ zs) (take_while_stops p xs ys y parts.1 e)
+    ∙ ap (λ zs. x ∷ zs) (take_while_stops p xs ys y parts.1 e)
 
 -- a free name is a name, and isn't reserved
 pub IsName-first_name : (text : List ℕ) → is_free (first_name text) ≡ true → IsName (first_name text)

@@ -94,7 +94,7 @@ lacks_name-Decides text =
           (and_from front long ((bytes_eq-Decides (take 10 text) (codes "Parameter ")).1 l.begins) (lt-ltb 10 (length text) l.goes_on))
           (not_from_false spaced (ne_eqb (get_or text 10 0) 32 l.no_space)))
           (and_from last inner (eq-eqb (get_or text (length text - 1) 0) 46 l.ends)
-              (list_all-from_AllPass is_inner (take (length text - 1) text) l.alone)))
+          (list_all-from_AllPass is_inner (take (length text - 1) text) l.alone)))
           (le-leb (length text) 65536 l.short))
           (not_from_false free l.no_name),
     )
@@ -144,7 +144,7 @@ declared text name after copy begins whole is free ends short same =
     let back = (bytes_eq-Decides after (codes " : Prop.")).0 ends in
     let spelled : text ≡ codes "Parameter " ++ name ++ codes " : Prop." =
     sym (take-append-drop 10 text) ∙ ap (λ t. t ++ drop 10 text) front
-        ∙ ap (λ t. codes "Parameter " ++ t) (whole ∙ ap (λ t. name ++ t) back) in
+    ∙ ap (λ t. codes "Parameter " ++ t) (whole ∙ ap (λ t. name ++ t) back) in
     let named : IsName name = subst IsName (sym is) (IsName-first_name (drop 10 text) (ap is_free (sym is) ∙ free)) in
     subst (Declares text) (sym same) record { spelled = spelled; is_name = named; is_free = is_reserved-free name free; short = short }
 
@@ -174,7 +174,7 @@ unclosed text name is reserved open_end =
     let last = eq-eqb (get_or text (length text - 1) 0) 46 l.ends in
     let inner = list_all-from_AllPass is_inner (take (length text - 1) text) l.alone in
     false≢true (sym open_end ∙ and_from (get_or text (length text - 1) 0 == 46) (list_all is_inner (take (length text - 1) text)) last
-        inner))
+    inner))
 
 -- the whole of the second row
 goes_on : (text : List ℕ) → take 10 text ≡ codes "Parameter " → 10 ≤ length text → get_or text (length text - 1) 0 ≡ 46 → 10 < length text
@@ -190,7 +190,7 @@ goes_on text front long last =
 pub closed : (text name : List ℕ) → pointwise nat_eq (take 10 text) (codes "Parameter ") ≡ true → name ≡ first_name (drop 10 text)
     → is_free name ≡ false
     → pointwise nat_eq (32 ∷ []) (take 1 (drop 10 text)) ≡ false → is_one_sentence text ≡ true → 10 ≤ length text → length text ≤ 65536
-        → IsReading text (Err (At 10))
+    → IsReading text (Err (At 10))
 closed text name begins is reserved unspaced one long short =
     let front = (bytes_eq-Decides (take 10 text) (codes "Parameter ")).0 begins in
     let parts = and_parts (get_or text (length text - 1) 0 == 46) (list_all is_inner (take (length text - 1) text)) one in

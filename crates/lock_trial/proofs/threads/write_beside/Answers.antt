@@ -21,12 +21,12 @@ returns-clause-writers g c = let made : (knows c.gather-others_wrote.new.seat).m
 pub returns-clause-written : goal.returns-clause-written
 returns-clause-written g c = let v = knows c.gather-others_wrote.new.seat in let e = c.close-written.ensures.ends.0 in
     let made : v.made ≡ c.args.writers + 1 = c.gather-others_wrote.ensures.same.0
-        ∙ (c.write_all-first_wrote.ensures.same.2 ∙ c.deal.ensures.made) in
+    ∙ (c.write_all-first_wrote.ensures.same.2 ∙ c.deal.ensures.made) in
     let zeroth : v.number ≡ 0 = c.gather-others_wrote.ensures.first.1 in
     let mine : v.mine ≡ notes_by v.number c.args.notes = c.gather-others_wrote.ensures.same.2
-        ∙ (c.in_ok-first_wrote.ensures.written ∙ ap (λ k. notes_by k c.args.notes) (c.write_all-first_wrote.ensures.first.1 ∙ sym zeroth))
-        in
+    ∙ (c.in_ok-first_wrote.ensures.written ∙ ap (λ k. notes_by k c.args.notes) (c.write_all-first_wrote.ensures.first.1 ∙ sym zeroth))
+    in
     let done = written_back (EachWriter (IsDone c.args.notes c.in-Ok.lock)) c.deal.new.writers.len c.write_all-first_wrote.new.writers
-        c.deal.new.writers.items (omega arith) (omega arith) c.write_all-first_wrote.ensures.others in
+    c.deal.new.writers.items (omega arith) (omega arith) c.write_all-first_wrote.ensures.others in
     λ by lt. seats_wrote c.args.notes by c.close-written.result.notes.items v zeroth e.own mine c.gather-others_wrote.ensures.all e.joined
-        (c.in_ok-others_wrote.ensures.written c.args.notes done) (omega arith)
+    (c.in_ok-others_wrote.ensures.written c.args.notes done) (omega arith)

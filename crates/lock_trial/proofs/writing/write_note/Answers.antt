@@ -15,4 +15,4 @@ returns-clause-mine g c = let before = c.hold-held.ensures.held in let after = c
     mine_grows c.add-added.result n c.args.what state.notes.items now.notes.items _ _ before.0.own
     (ap (λ v. v.mine) after ∙ ap (λ (j : ℕ). only (λ (e : Note). e.by) j now.notes.items) at)
     (subst (λ (p : List Note × ℕ). MatchResult c.add-added.result (λ _. now.notes.items ≡ p.0 ++ note p.1 c.args.what ∷ [])
-        (λ _. now.notes.items ≡ p.0)) (λ i. (start i, k i)) c.add-added.ensures.notes)
+    (λ _. now.notes.items ≡ p.0)) (λ i. (start i, k i)) c.add-added.ensures.notes)

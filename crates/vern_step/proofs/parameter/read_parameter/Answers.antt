@@ -24,7 +24,7 @@ returns-then-ne c =
     let named : name ≡ first_name (drop 10 text) = c.split_name.ensures.name ∙ ap first_name rest in
     let apart : pointwise nat_eq after (codes " : Prop.") ≡ false =
     ap (pointwise nat_eq after) (sym c.as_slice.ensures)
-        ∙ not-true (pointwise nat_eq after c.as_slice.result.now) (sym c.ne.ensures ∙ c.if-ne.true) in
+    ∙ not-true (pointwise nat_eq after c.as_slice.result.now) (sym c.ne.ensures ∙ c.if-ne.true) in
     let row = other_rest text name after (sym rest ∙ c.split_name.ensures.whole) named (sym c.is_free.ensures ∙ c.if-is_free.true) apart in
     record { table = inr row; value = inr (reading_is text (Err Unsupported) row); no_memory_only_at_a_name = λ e. absurd (cc) }
 
@@ -38,9 +38,9 @@ returns-then-is_free c =
     let named : name ≡ first_name (drop 10 text) = c.split_name.ensures.name ∙ ap first_name rest in
     let ends : pointwise nat_eq after (codes " : Prop.") ≡ true =
     ap (pointwise nat_eq after) (sym c.as_slice.ensures)
-        ∙ not-false (pointwise nat_eq after c.as_slice.result.now) (sym c.ne.ensures ∙ c.if-ne.false) in
+    ∙ not-false (pointwise nat_eq after c.as_slice.result.now) (sym c.ne.ensures ∙ c.if-ne.false) in
     let row = declared text name after copy c.in-Some.ensures.cases.0 (sym rest ∙ c.split_name.ensures.whole) named (sym c.is_free.ensures
-        ∙ c.if-is_free.true) ends
+    ∙ c.if-is_free.true) ends
     c.if-text-gt-SENTENCE_LIMIT.false c.in_ok-from_slice.ensures in
     record { table = inr row; value = inr (reading_is text (Ok copy) row); no_memory_only_at_a_name = λ e. absurd (cc) }
 
@@ -69,7 +69,7 @@ returns c =
     let named : name ≡ first_name (drop 10 text) = c.split_name.ensures.name ∙ ap first_name rest in
     let unspaced = ap (λ t. starts_with nat_eq t (codes " ")) (sym rest) ∙ sym c.starts_with.ensures.value ∙ c.if-starts_with.false in
     let row = closed text name c.in-Some.ensures.cases.0 named (sym c.is_free.ensures
-        ∙ c.if-is_free.false) unspaced (sym c.is_one_sentence.ensures ∙ c.if-not-is_one_sentence.false)
+    ∙ c.if-is_free.false) unspaced (sym c.is_one_sentence.ensures ∙ c.if-not-is_one_sentence.false)
     (omega (arith, c.in-Some.ensures.cases.2)) c.if-text-gt-SENTENCE_LIMIT.false in
     record { table = inr row; value = inr (reading_is text (Err (At 10)) row); no_memory_only_at_a_name = λ e. absurd (cc) }
 
@@ -83,7 +83,7 @@ returns-in_err-from_slice-clause-no_memory_only_at_a_name c =
     let named : name ≡ first_name (drop 10 text) = c.split_name.ensures.name ∙ ap first_name rest in
     let ends : pointwise nat_eq after (codes " : Prop.") ≡ true =
     ap (pointwise nat_eq after) (sym c.as_slice.ensures)
-        ∙ not-false (pointwise nat_eq after c.as_slice.result.now) (sym c.ne.ensures ∙ c.if-ne.false) in
+    ∙ not-false (pointwise nat_eq after c.as_slice.result.now) (sym c.ne.ensures ∙ c.if-ne.false) in
     λ e. (
       name,
       declared text name after name c.in-Some.ensures.cases.0 (sym rest ∙ c.split_name.ensures.whole) named (sym c.is_free.ensures
