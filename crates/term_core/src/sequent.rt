@@ -28,6 +28,7 @@ pub struct Sequent {
 pub fn slots_are_entries()
     ensures push { (slots : List Slot) (slot : Slot) → entries (slots ++ slot ∷ []) ≡ entry slot ∷ entries slots }
     ensures append { (older newer : List Slot) → entries (older ++ newer) ≡ entries newer ++ entries older }
-    ensures place { (older newer : List Slot) (slot : Slot) → entries (older ++ slot ∷ newer) ≡ entries newer ++ entry slot ∷ entries older }
+    ensures place { (older newer : List Slot) (slot : Slot)
+        → entries (older ++ slot ∷ newer) ≡ entries newer ++ entry slot ∷ entries older }
     ensures names { (older newer : List Slot) → names (older ++ newer) ≡ names older ++ names newer }
 {}
