@@ -217,9 +217,28 @@ unnamed_Ex s x a = ap unnamed (meaning_Ex s x a)
 
 pub ruleset meanings = (meaning_Pred, meaning_Eq, meaning_And, meaning_Or, meaning_Imp, meaning_All, meaning_Ex)
 
-pub ruleset replacements =
-    (meanings, replace_Pred, replace_Eq, replace_And, replace_Or, replace_Imp, replace_All, replace_Ex, reach_Pred, reach_Eq, reach_And,
-    reach_Or, reach_Imp, depth_Pred, depth_Eq, depth_And, depth_Or, depth_Imp, depth_All, depth_Ex)
+pub ruleset replacements = (
+  meanings,
+  replace_Pred,
+  replace_Eq,
+  replace_And,
+  replace_Or,
+  replace_Imp,
+  replace_All,
+  replace_Ex,
+  reach_Pred,
+  reach_Eq,
+  reach_And,
+  reach_Or,
+  reach_Imp,
+  depth_Pred,
+  depth_Eq,
+  depth_And,
+  depth_Or,
+  depth_Imp,
+  depth_All,
+  depth_Ex,
+)
 
 pub ruleset sizes = (nodes_Pred, nodes_Eq, nodes_And, nodes_Or, nodes_Imp, nodes_All, nodes_Ex)
 

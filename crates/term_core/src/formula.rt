@@ -9,6 +9,9 @@ ghost use Rattle.term_core.specs.Formula.{meaning, outcome, part_outcome};
 ghost use Rattle.term_core.specs.Term as term;
 ghost use Rattle.std.specs.Arc.{arc_value};
 
+use crate::parts::{
+    conjunction, disjunction, equation, existential, implication, predicate, universal,
+};
 use crate::term::{LIMIT, height_of_all, put_all, same_all, shifted_all, size_of_all};
 use crate::{Name, Term, Terms};
 use base_core::NoMemory;
@@ -71,46 +74,25 @@ impl Formula {
     {
         match self {
             Formula::True | Formula::False => Ok(None),
-            Formula::Pred(p, ts) => match shifted_all(alloc, ts.as_slice(), from, by)? {
-                None => Ok(None),
-                Some(ts) => Ok(Some(Formula::Pred(p.copy()?, ts))),
-            },
+            Formula::Pred(p, ts) => predicate(p, ts, shifted_all(alloc, ts.as_slice(), from, by)?),
             Formula::Eq(s, t, u) => {
                 let left = t.shifted(alloc, from, by)?;
-                match sides(t, left, u, u.shifted(alloc, from, by)?)? {
-                    None => Ok(None),
-                    Some((t, u)) => Ok(Some(Formula::Eq(s.copy()?, t, u))),
-                }
+                equation(s, t, left, u, u.shifted(alloc, from, by)?)
             }
             Formula::And(a, b) => {
                 let left = shifted_part(alloc, a, from, by)?;
-                match pair(a, left, b, shifted_part(alloc, b, from, by)?)? {
-                    None => Ok(None),
-                    Some((a, b)) => Ok(Some(Formula::And(a, b))),
-                }
+                conjunction(a, left, b, shifted_part(alloc, b, from, by)?)
             }
             Formula::Or(a, b) => {
                 let left = shifted_part(alloc, a, from, by)?;
-                match pair(a, left, b, shifted_part(alloc, b, from, by)?)? {
-                    None => Ok(None),
-                    Some((a, b)) => Ok(Some(Formula::Or(a, b))),
-                }
+                disjunction(a, left, b, shifted_part(alloc, b, from, by)?)
             }
             Formula::Imp(a, b) => {
                 let left = shifted_part(alloc, a, from, by)?;
-                match pair(a, left, b, shifted_part(alloc, b, from, by)?)? {
-                    None => Ok(None),
-                    Some((a, b)) => Ok(Some(Formula::Imp(a, b))),
-                }
+                implication(a, left, b, shifted_part(alloc, b, from, by)?)
             }
-            Formula::All(s, x, a) => match shifted_body(alloc, a, from, by)? {
-                None => Ok(None),
-                Some(a) => Ok(Some(Formula::All(s.copy()?, x.copy()?, a))),
-            },
-            Formula::Ex(s, x, a) => match shifted_body(alloc, a, from, by)? {
-                None => Ok(None),
-                Some(a) => Ok(Some(Formula::Ex(s.copy()?, x.copy()?, a))),
-            },
+            Formula::All(s, x, a) => universal(s, x, a, shifted_body(alloc, a, from, by)?),
+            Formula::Ex(s, x, a) => existential(s, x, a, shifted_body(alloc, a, from, by)?),
         }
     }
 
@@ -142,47 +124,36 @@ impl Formula {
         requires binders { binders ≤ index }
         requires index { index + depth (meaning self.now) < 2 ^ 64 }
         requires indices { reach (substitute index (shift_term 0 binders (term.meaning value.now)) (meaning self.now)) ≤ 2 ^ 64 }
-        ensures {
-            IfOk result (λ a. outcome a self.now
-                ≡ substitute index (shift_term 0 binders (term.meaning value.now)) (meaning self.now))
-        }
+        ensures { IfOk result (λ a. outcome a self.now
+            ≡ substitute index (shift_term 0 binders (term.meaning value.now)) (meaning self.now)) }
     {
         match self {
             Formula::True | Formula::False => Ok(None),
-            Formula::Pred(p, ts) => match put_all(alloc, ts.as_slice(), index, value, binders)? {
-                None => Ok(None),
-                Some(ts) => Ok(Some(Formula::Pred(p.copy()?, ts))),
-            },
+            Formula::Pred(p, ts) => predicate(
+                p,
+                ts,
+                put_all(alloc, ts.as_slice(), index, value, binders)?,
+            ),
             Formula::Eq(s, t, u) => put_equation(alloc, s, t, u, index, value, binders),
             Formula::And(a, b) => {
                 let left = put_part(alloc, a, index, value, binders)?;
-                match pair(a, left, b, put_part(alloc, b, index, value, binders)?)? {
-                    None => Ok(None),
-                    Some((a, b)) => Ok(Some(Formula::And(a, b))),
-                }
+                conjunction(a, left, b, put_part(alloc, b, index, value, binders)?)
             }
             Formula::Or(a, b) => {
                 let left = put_part(alloc, a, index, value, binders)?;
-                match pair(a, left, b, put_part(alloc, b, index, value, binders)?)? {
-                    None => Ok(None),
-                    Some((a, b)) => Ok(Some(Formula::Or(a, b))),
-                }
+                disjunction(a, left, b, put_part(alloc, b, index, value, binders)?)
             }
             Formula::Imp(a, b) => {
                 let left = put_part(alloc, a, index, value, binders)?;
-                match pair(a, left, b, put_part(alloc, b, index, value, binders)?)? {
-                    None => Ok(None),
-                    Some((a, b)) => Ok(Some(Formula::Imp(a, b))),
-                }
+                implication(a, left, b, put_part(alloc, b, index, value, binders)?)
             }
-            Formula::All(s, x, a) => match put_body(alloc, a, index, value, binders)? {
-                None => Ok(None),
-                Some(a) => Ok(Some(Formula::All(s.copy()?, x.copy()?, a))),
-            },
-            Formula::Ex(s, x, a) => match put_body(alloc, a, index, value, binders)? {
-                None => Ok(None),
-                Some(a) => Ok(Some(Formula::Ex(s.copy()?, x.copy()?, a))),
-            },
+            Formula::All(s, x, a) => universal(s, x, a, put_body(alloc, a, index, value, binders)?),
+            Formula::Ex(s, x, a) => existential(
+                s,
+                x,
+                a,
+                put_body(alloc, a, index, value, binders)?,
+            ),
         }
     }
 
@@ -243,46 +214,6 @@ impl Formula {
     }
 }
 
-/// Two parts from what they have become: a part that was left is shared. None where both were left.
-fn pair(
-    a: &Arc<Formula>,
-    new_a: Option<Arc<Formula>>,
-    b: &Arc<Formula>,
-    new_b: Option<Arc<Formula>>,
-) -> Result<Option<(Arc<Formula>, Arc<Formula>)>, NoMemory>
-    ensures left {
-        IfOk result (λ r. option_map_or (λ p. meaning (arc_value p.0)) r (meaning (arc_value a.now)) ≡ part_outcome new_a a.now)
-    }
-    ensures right {
-        IfOk result (λ r. option_map_or (λ p. meaning (arc_value p.1)) r (meaning (arc_value b.now)) ≡ part_outcome new_b b.now)
-    }
-{
-    match (new_a, new_b) {
-        (None, None) => Ok(None),
-        (None, Some(y)) => Ok(Some((a.clone()?, y))),
-        (Some(x), None) => Ok(Some((x, b.clone()?))),
-        (Some(x), Some(y)) => Ok(Some((x, y))),
-    }
-}
-
-/// The sides of an equation from what they have become. None where both were left.
-fn sides(
-    t: &Term,
-    new_t: Option<Term>,
-    u: &Term,
-    new_u: Option<Term>,
-) -> Result<Option<(Term, Term)>, NoMemory>
-    ensures left { IfOk result (λ r. option_map_or (λ p. term.meaning p.0) r (term.meaning t.now) ≡ term.outcome new_t t.now) }
-    ensures right { IfOk result (λ r. option_map_or (λ p. term.meaning p.1) r (term.meaning u.now) ≡ term.outcome new_u u.now) }
-{
-    match (new_t, new_u) {
-        (None, None) => Ok(None),
-        (None, Some(y)) => Ok(Some((t.copy()?, y))),
-        (Some(x), None) => Ok(Some((x, u.copy()?))),
-        (Some(x), Some(y)) => Ok(Some((x, y))),
-    }
-}
-
 /// A part, made anew where a variable in it moves.
 #[cycle(shift)]
 fn shifted_part(
@@ -327,13 +258,9 @@ fn put_part(
 ) -> Result<Option<Arc<Formula>>, NoMemory>
     requires binders { binders ≤ index }
     requires index { index + depth (meaning (arc_value a.now)) < 2 ^ 64 }
-    requires indices {
-        reach (substitute index (shift_term 0 binders (term.meaning value.now)) (meaning (arc_value a.now))) ≤ 2 ^ 64
-    }
-    ensures {
-        IfOk result (λ r. part_outcome r a.now
-            ≡ substitute index (shift_term 0 binders (term.meaning value.now)) (meaning (arc_value a.now)))
-    }
+    requires indices { reach (substitute index (shift_term 0 binders (term.meaning value.now)) (meaning (arc_value a.now))) ≤ 2 ^ 64 }
+    ensures { IfOk result (λ r. part_outcome r a.now
+        ≡ substitute index (shift_term 0 binders (term.meaning value.now)) (meaning (arc_value a.now))) }
 {
     match a.put(alloc, index, value, binders)? {
         None => Ok(None),
@@ -352,19 +279,15 @@ fn put_body(
 ) -> Result<Option<Arc<Formula>>, NoMemory>
     requires binders { binders ≤ index }
     requires index { index + 1 + depth (meaning (arc_value a.now)) < 2 ^ 64 }
-    requires indices {
-        reach (replace (lift (put index (shift_term 0 binders (term.meaning value.now)))) (meaning (arc_value a.now))) ≤ 2 ^ 64
-    }
-    ensures {
-        IfOk result (λ r. part_outcome r a.now
-            ≡ replace (lift (put index (shift_term 0 binders (term.meaning value.now)))) (meaning (arc_value a.now)))
-    }
+    requires indices { reach (replace (lift (put index (shift_term 0 binders (term.meaning value.now))))
+        (meaning (arc_value a.now))) ≤ 2 ^ 64 }
+    ensures { IfOk result (λ r. part_outcome r a.now
+        ≡ replace (lift (put index (shift_term 0 binders (term.meaning value.now)))) (meaning (arc_value a.now))) }
 {
     put_part(alloc, a, index + 1, value, binders + 1)
 }
 
 /// An equation with the value put into its sides.
-#[tactic(auto, using(crate::proofs::Variants::meanings))]
 fn put_equation(
     alloc: Global,
     sort: &Name,
@@ -374,20 +297,13 @@ fn put_equation(
     value: &Term,
     binders: u64,
 ) -> Result<Option<Formula>, NoMemory>
-    requires {
-        max (term_reach (substitute_term index (shift_term 0 binders (term.meaning value.now)) (term.meaning t.now)))
-            (term_reach (substitute_term index (shift_term 0 binders (term.meaning value.now)) (term.meaning u.now))) ≤ 2 ^ 64
-    }
-    ensures {
-        IfOk result (λ a. option_map_or meaning a (equal sort.now (term.meaning t.now) (term.meaning u.now))
-            ≡ equal sort.now
-                (substitute_term index (shift_term 0 binders (term.meaning value.now)) (term.meaning t.now))
-                (substitute_term index (shift_term 0 binders (term.meaning value.now)) (term.meaning u.now)))
-    }
+    requires { max (term_reach (substitute_term index (shift_term 0 binders (term.meaning value.now)) (term.meaning t.now)))
+        (term_reach (substitute_term index (shift_term 0 binders (term.meaning value.now)) (term.meaning u.now))) ≤ 2 ^ 64 }
+    ensures { IfOk result (λ a. option_map_or meaning a (equal sort.now (term.meaning t.now) (term.meaning u.now))
+        ≡ equal sort.now
+        (substitute_term index (shift_term 0 binders (term.meaning value.now)) (term.meaning t.now))
+        (substitute_term index (shift_term 0 binders (term.meaning value.now)) (term.meaning u.now))) }
 {
     let left = t.put(alloc, index, value, binders)?;
-    match sides(t, left, u, u.put(alloc, index, value, binders)?)? {
-        None => Ok(None),
-        Some((t, u)) => Ok(Some(Formula::Eq(sort.copy()?, t, u))),
-    }
+    equation(sort, t, left, u, u.put(alloc, index, value, binders)?)
 }

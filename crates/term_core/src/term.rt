@@ -1,5 +1,23 @@
 //! Terms.
-ghost use Rattle.std.specs.Prelude.{◌≡◌, ◌↔◌, ◌<◌, ◌≤◌, ◌^◌, ◌+◌, min, IfOk, IsTrue, List, [], ◌∷◌, ◌++◌, length, take, slice_index_or};
+ghost use Rattle.std.specs.Prelude.{
+  ◌≡◌,
+  ◌↔◌,
+  ◌<◌,
+  ◌≤◌,
+  ◌^◌,
+  ◌+◌,
+  min,
+  IfOk,
+  IsTrue,
+  List,
+  [],
+  ◌∷◌,
+  ◌++◌,
+  length,
+  map,
+  take,
+  slice_index_or,
+};
 ghost use Rattle.fol_theory.specs.Syntax.{terms};
 ghost use Rattle.fol_theory.specs.Substitution.{replace_terms, raise, put, shift_term, substitute_term};
 ghost use Rattle.fol_theory.specs.Measures.{term_nodes, terms_nodes, term_height, terms_height, term_reach, terms_reach};
@@ -50,7 +68,12 @@ impl Term {
     /// The same, or None where each variable is left as it is.
     #[cycle(shift)]
     #[tactic(auto, using(crate::proofs::Applications::applications))]
-    pub(crate) fn shifted(&self, alloc: Global, from: u64, by: u64) -> Result<Option<Term>, NoMemory>
+    pub(crate) fn shifted(
+        &self,
+        alloc: Global,
+        from: u64,
+        by: u64,
+    ) -> Result<Option<Term>, NoMemory>
         requires { term_reach (shift_term from by (meaning self.now)) ≤ 2 ^ 64 }
         ensures { IfOk result (λ t. outcome t self.now ≡ shift_term from by (meaning self.now)) }
     {
@@ -91,14 +114,10 @@ impl Term {
         value: &Term,
         binders: u64,
     ) -> Result<Option<Term>, NoMemory>
-        requires {
-            0 < binders
-                → term_reach (substitute_term index (shift_term 0 binders (meaning value.now)) (meaning self.now)) ≤ 2 ^ 64
-        }
-        ensures {
-            IfOk result (λ t. outcome t self.now
-                ≡ substitute_term index (shift_term 0 binders (meaning value.now)) (meaning self.now))
-        }
+        requires { 0 < binders
+            → term_reach (substitute_term index (shift_term 0 binders (meaning value.now)) (meaning self.now)) ≤ 2 ^ 64 }
+        ensures { IfOk result (λ t. outcome t self.now
+            ≡ substitute_term index (shift_term 0 binders (meaning value.now)) (meaning self.now)) }
     {
         match self {
             Term::Var(i) => {
@@ -156,6 +175,17 @@ impl Term {
     }
 }
 
+/// Copies of terms, with room for so many in all.
+fn copies(alloc: Global, ts: &[Term], room: usize) -> Result<Vec<Term>, NoMemory>
+    ensures { IfOk result (λ list. map meaning list.items ≡ map meaning ts.now) }
+{
+    let mut list = Vec::with_capacity(alloc, room)?;
+    for t in ts {
+        list.push(t.copy()?)?;
+    }
+    Ok(list)
+}
+
 /// The terms before another and that one, from what they have become. A list is made where the first one has changed.
 fn joined(
     alloc: Global,
@@ -165,18 +195,13 @@ fn joined(
     new: Option<Term>,
 ) -> Result<Option<Vec<Term>>, NoMemory>
     requires { i < length all.now }
-    ensures {
-        IfOk result (λ r. (d : Term) → each_outcome r (take (i + 1) all.now)
-            ≡ each_outcome before (take i all.now) ++ outcome new (slice_index_or all.now i d) ∷ [])
-    }
+    ensures { IfOk result (λ r. (d : Term) → each_outcome r (take (i + 1) all.now)
+        ≡ each_outcome before (take i all.now) ++ outcome new (slice_index_or all.now i d) ∷ []) }
 {
     match (before, new) {
         (None, None) => Ok(None),
         (None, Some(t)) => {
-            let mut list = Vec::with_capacity(alloc, all.len())?;
-            for t in &all[..i] {
-                list.push(t.copy()?)?;
-            }
+            let mut list = copies(alloc, &all[..i], all.len())?;
             list.push(t)?;
             Ok(Some(list))
         }
@@ -240,14 +265,10 @@ pub(crate) fn put_all(
     value: &Term,
     binders: u64,
 ) -> Result<Option<Terms>, NoMemory>
-    requires {
-        0 < binders
-            → terms_reach (replace_terms (put index (shift_term 0 binders (meaning value.now))) (list_meaning ts.now)) ≤ 2 ^ 64
-    }
-    ensures {
-        IfOk result (λ us. list_outcome us ts.now
-            ≡ replace_terms (put index (shift_term 0 binders (meaning value.now))) (list_meaning ts.now))
-    }
+    requires { 0 < binders
+        → terms_reach (replace_terms (put index (shift_term 0 binders (meaning value.now))) (list_meaning ts.now)) ≤ 2 ^ 64 }
+    ensures { IfOk result (λ us. list_outcome us ts.now
+        ≡ replace_terms (put index (shift_term 0 binders (meaning value.now))) (list_meaning ts.now)) }
 {
     let mut list: Option<Vec<Term>> = None;
     for i in 0..ts.len() {
