@@ -46,7 +46,7 @@ Narrows i d = NarrowsIn (seat i d) d.focus
 
 abbrev pub narrowed_at : Seat → Line → Focus ℕ Closing → Line
 narrowed_at (among (at_inner a l f k c t)) d (last o) = line_of a (zone l f c t o)
-narrowed_at (open_inner l f k) d (zone m b c t o) = line_of d.items (zone l f c t o)
+narrowed_at (open_inner l f k) d (zone m b c t o) = line_of d.items (zone m f c t o)
 narrowed_at s d f = d
 
 -- the id goes, with what stands between it and the closer, or the cursor, and the zone is open where it stood
