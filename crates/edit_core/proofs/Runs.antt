@@ -116,8 +116,7 @@ module _ {list : List ℕ} {k : ℕ} {d0 d : Line} {e0 e : List Edited} {g0 g : 
         let same : y ≡ d = l ∙ ap (λ z. line_after z d) ch in
         let s : cancelled (drop k list) d ≡ none_left d (Some (x, c)) = next ∙ ap (λ z. cancel_step x d z (cancelled (drop n list))) ch in
         let tr : t ≡ (cancelled list d0).treated = sym (r.treated ∙ (ap (λ z. t + z.treated) s ∙ none t)) in
-        let st : Some (x, c) ≡ (cancelled list d0).stopped = sym (r.stopped ∙ ap (λ z. z.stopped) s) in
-        (
+        let st : Some (x, c) ≡ (cancelled list d0).stopped = sym (r.stopped ∙ ap (λ z. z.stopped) s) in (
           same ∙ sym (r.line ∙ ap (λ z. z.line) s),
           (
             sym (r.edits ∙ (ap (λ z. e ++ map told_outcome z.edits) s ∙ append-nil e)),
@@ -136,8 +135,7 @@ module _ {list : List ℕ} {k : ℕ} {d0 d : Line} {e0 e : List Edited} {g0 g : 
   running_end h =
       let s : cancelled (drop k list) d ≡ none_left d None = ap (λ z. cancelled z d) (dropped_last list k h) in
       let tr : t ≡ (cancelled list d0).treated = sym (r.treated ∙ (ap (λ z. t + z.treated) s ∙ none t)) in
-      let st : None ≡ (cancelled list d0).stopped = sym (r.stopped ∙ ap (λ z. z.stopped) s) in
-      (
+      let st : None ≡ (cancelled list d0).stopped = sym (r.stopped ∙ ap (λ z. z.stopped) s) in (
         sym (r.line ∙ ap (λ z. z.line) s),
         (
           sym (r.edits ∙ (ap (λ z. e ++ map told_outcome z.edits) s ∙ append-nil e)),

@@ -63,7 +63,12 @@ pub fn cancel(graph: &mut Graph, ids: &Ids) -> Result<Cancelled, NoMemory>
 }
 
 /// The ids go, from left to right; the edits and the ids that went are listed.
-fn remove_all(graph: &mut Graph, list: &[u64], edits: &mut SparedSequence<Edited>, removed: &mut SparedSequence<u64>) -> End
+fn remove_all(
+    graph: &mut Graph,
+    list: &[u64],
+    edits: &mut SparedSequence<Edited>,
+    removed: &mut SparedSequence<u64>,
+) -> End
     requires room { length (ids graph.old) ≤ removed.old.spare }
     requires edits { length list.now ≤ edits.old.spare }
     ensures line { graph.new ≡ (cancelled list.now graph.old).line }

@@ -178,8 +178,7 @@ module _ {S : Type 0} {a : List (Item ℕ Closing)} {o : End ℕ} {m : IndexMap 
   pub clearing_end_ids : (z : Option Opened) (k : Kept a o z m) (st : Stands (seat i (line_of a o z))) (le : length a ≤ p.item)
       → (rest_at p.part (drop p.item a) o ≡ end_rest p.part o) × ((ids (line_of a o z) ≡ (items_ids a ++ end_front p.part o) ++ (end_rest p.part o ++ [])) × (ids (cleared i (line_of a o z)) ≡ (items_ids a ++ end_front p.part o) ++ []))
   clearing_end_ids z k st le =
-      let w = clearing_end z k st le in
-      (
+      let w = clearing_end z k st le in (
         ap (λ y. rest_at p.part y o) (dropped_all a p.item le),
         (
           line_ids a o z k.zone ∙ (ap (λ y. items_ids a ++ y) (end_split i p.part o w.0) ∙ around (items_ids a) (end_front p.part o) (end_rest p.part o)),

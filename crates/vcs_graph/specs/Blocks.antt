@@ -24,3 +24,9 @@ block_at i missing f = open_block i f
 -- of a line with no zone: closing a zone changes neither the line nor its blocks
 abbrev pub block_in : ℕ → Line → Option Block
 block_in i d = block_at i (locate i d.items) d.focus
+
+-- the lemma of the block in which the cursor stands
+abbrev pub open_in : Focus ℕ Closing → Option ℕ
+open_in (last closed) = None
+open_in (last (proof l b)) = Some l
+open_in (zone l b c t o) = Some l

@@ -12,7 +12,12 @@ use crate::segment::Segment;
 use crate::table::Places;
 
 /// All behind a place goes, and where its block has lost its closer, it is open at the end.
-pub(crate) fn cut_behind(items: &mut Vec<Segment>, ending: &mut Ending, places: &mut Places, place: Place)
+pub(crate) fn cut_behind(
+    items: &mut Vec<Segment>,
+    ending: &mut Ending,
+    places: &mut Places,
+    place: Place,
+)
     requires item { place.item < length items.old.items }
     ensures items { (f t : List (Item ℕ Closing)) (x : Item ℕ Closing) → items.old.items ≡ f ++ (x ∷ t) → length f ≡ place.item → items.new.items ≡ cut_items place.part f x }
     ensures end { (f t : List (Item ℕ Closing)) (x : Item ℕ Closing) → items.old.items ≡ f ++ (x ∷ t) → length f ≡ place.item → ending.new ≡ cut_end place.part x }
@@ -26,7 +31,12 @@ pub(crate) fn cut_behind(items: &mut Vec<Segment>, ending: &mut Ending, places: 
 }
 
 /// The id at a place goes, and all behind it; where its block has lost its closer and not its lemma, it is open at the end.
-pub(crate) fn cut_from(items: &mut Vec<Segment>, ending: &mut Ending, places: &mut Places, place: Place)
+pub(crate) fn cut_from(
+    items: &mut Vec<Segment>,
+    ending: &mut Ending,
+    places: &mut Places,
+    place: Place,
+)
     requires item { place.item < length items.old.items }
     ensures items { (f t : List (Item ℕ Closing)) (x : Item ℕ Closing) → items.old.items ≡ f ++ (x ∷ t) → length f ≡ place.item → items.new.items ≡ f }
     ensures end { (f t : List (Item ℕ Closing)) (x : Item ℕ Closing) → items.old.items ≡ f ++ (x ∷ t) → length f ≡ place.item → ending.new ≡ left_end place.part x }

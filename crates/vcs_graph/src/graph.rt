@@ -3,7 +3,7 @@ ghost use Rattle.std.specs.Prelude.{◌≡◌, ℕ, ◌+◌, ◌^◌, ◌≤◌,
 ghost use Rattle.line_theory.specs.Lists.{has, last_or};
 ghost use Rattle.line_theory.specs.Lines.{empty, ids, front, before, cursor, tip, committed, begun, merged, refolded, AtEnd, InProof, InZone, zone_in, items_ids, Opens, zoned, Drops, dropped};
 ghost use Rattle.line_theory.specs.Edits.{seat, lost};
-ghost use Rattle.vcs_graph.specs.Blocks.{block_in};
+ghost use Rattle.vcs_graph.specs.Blocks.{block_in, open_in};
 ghost use Rattle.vcs_graph.specs.Branches.{Branches, branched, IsZone};
 ghost use Rattle.vcs_graph.specs.GraphView.{IsStart};
 ghost use Rattle.vcs_graph.specs.Removals.{Stands, cleared, Narrows, narrowed};
@@ -159,6 +159,16 @@ impl Graph {
                 None => None,
             },
             None => None,
+        }
+    }
+
+    /// The lemma of the block in which the cursor stands: the zone's block, or the one that is open at the end.
+    pub fn open_lemma(&self) -> Option<u64>
+        ensures { result ≡ open_in self.now.focus }
+    {
+        match self.zone {
+            Some(zone) => Some(self.items[zone.item].first()),
+            None => self.ending.lemma(),
         }
     }
 

@@ -31,7 +31,12 @@ pub(crate) fn put_items(items: &[Segment], list: &mut SparedSequence<u64>)
 }
 
 /// The id at a place is listed, and all behind it.
-pub(crate) fn put_rest(items: &[Segment], ending: &Ending, place: Place, list: &mut SparedSequence<u64>)
+pub(crate) fn put_rest(
+    items: &[Segment],
+    ending: &Ending,
+    place: Place,
+    list: &mut SparedSequence<u64>,
+)
     requires room { length (items_ids items.now) + length (end_ids ending.now) ≤ list.old.spare }
     ensures items { list.new.items ≡ list.old.items ++ rest_at place.part (drop place.item items.now) ending.now }
     ensures room { list.old.spare ≤ list.new.spare + length (rest_at place.part (drop place.item items.now) ending.now) }

@@ -13,6 +13,6 @@ pub loop-item-preserved : goal.loop-item-preserved
 loop-item-preserved c =
     let h = count_step c.args.items.now c.loop-item.item-index (c.loop-item.item-index + 1) c.item-item.result (omega arith) c.loop-item-test.true c.item-item.is in (
       list_more c.put_from.new.list.items c.loop-item.list.items c.args.list.now.items c.args.items.now c.loop-item.item-index (c.loop-item.item-index + 1) c.item-item.result (omega arith) c.loop-item-test.true c.item-item.is
-      c.put_from.ensures.items c.loop-item.invariant.0,
+          c.put_from.ensures.items c.loop-item.invariant.0,
       omega (arith, h.0, h.1, c.loop-item.invariant.1, c.put_from.ensures.room, ap length (first_rest c.item-item.result)),
     )
