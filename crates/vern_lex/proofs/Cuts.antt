@@ -42,7 +42,7 @@ pub to_full_stop-comment : (at : ℕ) (text rest : List ℕ) (place : ℕ) → p
 to_full_stop-comment at text rest place e h r other =
     sym (ap (λ t. if t then Ok (place + 1) else Err (Unclosed (at + place))) other) ∙ to_full_stop-here at text rest place e h r
 
-no_bullet : (k b : ℕ) → is_bullet k ≡ false → is_bullet b ≡ true → (k == b) ≡ false
+pub no_bullet : (k b : ℕ) → is_bullet k ≡ false → is_bullet b ≡ true → (k == b) ≡ false
 no_bullet k b n y = ne_eqb k b (λ e. false≢true (sym n ∙ ap is_bullet e ∙ y))
 
 -- the length by the first byte

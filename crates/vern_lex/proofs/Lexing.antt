@@ -89,7 +89,7 @@ nothing_next at xs h = ap (next_token at) (drop_all at xs h)
 
 -- ---- how many tokens are asked for doesn't matter, where they are enough
 
-abbrev step : ℕ → List ℕ → Option Token → List Token
+abbrev pub step : ℕ → List ℕ → Option Token → List Token
 step most xs found = elim found [ None ↦ [] | Some token ↦ token ∷ tokens_behind most xs token.span.to ]
 
 enough : (m n : ℕ) (xs : List ℕ) (at : ℕ) → length xs - at ≤ m → length xs - at ≤ n → tokens_behind m xs at ≡ tokens_behind n xs at
@@ -124,7 +124,7 @@ left_none xs at e = by (cases_lt at (length xs))
     by (inl h) = left_is xs at h ∙ ap (step (length xs - at - 1) xs) e
     by (inr h) = let zero_left : length xs - at ≡ 0 = omega (arith, h) in ap (λ n. tokens_behind n xs at) zero_left
 
-within_since : (xs : List ℕ) (at : ℕ) (t : Token) → next_token at (drop at xs) ≡ Some t → at < length xs
+pub within_since : (xs : List ℕ) (at : ℕ) (t : Token) → next_token at (drop at xs) ≡ Some t → at < length xs
 within_since xs at t e = by (cases_lt at (length xs))
   where
     by : (at < length xs) ⊎ (length xs ≤ at) → at < length xs

@@ -1,5 +1,5 @@
 -- Where the sentences of a text stand.
-use Rattle.std.specs.Prelude.{◌≡◌, ◌⊎◌, ℕ, zero, suc, ◌+◌, ◌-◌, ◌<◌, ◌≤◌, ◌&&◌, ◌||◌, ◌==◌, List, [], ◌∷◌, length, drop, Bool, true, false, not, nat_le, Option, Some, None, Result, Ok, Err, if◌then◌else◌}
+use Rattle.std.specs.Prelude.{◌≡◌, ◌⊎◌, ℕ, zero, suc, ◌+◌, ◌-◌, ◌<◌, ◌≤◌, ◌&&◌, ◌||◌, ◌==◌, List, [], ◌∷◌, length, drop, slice_index, Bool, true, false, not, nat_le, Option, Some, None, Result, Ok, Err, if◌then◌else◌}
 use Rattle.std.specs.List.{prefix_len}
 use Rattle.vern_lex.specs.Comments.{IsGap, is_blank, is_gap, opens_comment, outside, first_place, begins, part}
 use Rattle.vern_lex.specs.declared.span.Span.{Span}
@@ -81,6 +81,38 @@ pub record IsSentenceSpan (text : List ℕ) (span : Span) : Type 0 where
   pub some : span.from < span.to
   pub short : span.to ≤ span.from + 65536
   pub within : span.to ≤ length text
+
+-- outside of comments a full stop stands at this offset, and a blank or the end follows
+pub record IsStop (text : List ℕ) (at : ℕ) : Type 0 where
+  pub full_stop : slice_index (outside text) at ≡ 46
+  pub followed : is_blank_or_end (drop (at + 1) (outside text)) ≡ true
+
+-- the one byte of the span is a brace
+pub record IsBraceSpan (text : List ℕ) (span : Span) : Type 0 where
+  pub brace : is_brace (slice_index text span.from) ≡ true
+  pub one : span.to ≡ span.from + 1
+
+-- the bytes of the span are one byte of bullets over and over, and the byte behind it, if there is one, is another
+pub record IsBulletSpan (text : List ℕ) (span : Span) : Type 0 where
+  pub byte : ℕ
+  pub bullet : is_bullet byte ≡ true
+  pub each : (k : ℕ) → span.from ≤ k → k < span.to → slice_index text k ≡ byte
+  pub longest : slice_index text span.to ≡ byte → ⊥
+
+-- the span begins with no brace and no bullet, its last byte is a full stop that ends a sentence, and it is the first such; no comment that
+-- doesn't end begins before
+pub record IsSpanToFullStop (text : List ℕ) (span : Span) : Type 0 where
+  pub no_brace : is_brace (slice_index text span.from) ≡ false
+  pub no_bullet : is_bullet (slice_index text span.from) ≡ false
+  pub last : IsStop text (span.to - 1)
+  pub first : (k : ℕ) → span.from ≤ k → k + 1 < span.to → IsStop text k → ⊥
+  pub closed : (k : ℕ) → span.from ≤ k → k < span.to → opens_comment (drop k (outside text)) ≡ false
+
+-- A sentence is a brace, or the longest run of one byte of bullets, or it goes to the first full stop that ends one.
+pub data IsWholeSentence (text : List ℕ) (span : Span) : Type 0 where
+  brace : IsBraceSpan text span → IsWholeSentence text span
+  bullet : IsBulletSpan text span → IsWholeSentence text span
+  full_stop : IsSpanToFullStop text span → IsWholeSentence text span
 
 -- each span begins where the one before it ends, or behind, and the first at the offset `at`, or behind
 abbrev pub Rise : ℕ → List Span → Type 0

@@ -112,6 +112,34 @@ pub record IsTokenOf (sentence : List ℕ) (token : Token) : Type 0 where
   pub some : token.span.from < token.span.to
   pub within : token.span.to ≤ length sentence
 
+-- the kind of a sign by its bytes: `<->`, a sign of two bytes, or one byte, which may be stray
+abbrev pub sign_kind : List ℕ → Option TokenKind
+sign_kind [] = None
+sign_kind (a ∷ []) = Some (single_kind a)
+sign_kind (a ∷ b ∷ []) = pair_kind a b
+sign_kind (a ∷ b ∷ c ∷ []) = if c == 62 && b == 45 && a == 60 then Some Iff else None
+sign_kind (a ∷ b ∷ c ∷ d ∷ rest) = None
+
+-- the kind that bytes have as a word or a sign, or none where they are neither
+abbrev pub spelled_kind : List ℕ → Option TokenKind
+spelled_kind [] = None
+spelled_kind (b ∷ rest) =
+    if begins_name b then (if list_all continues_name rest then Some (word_kind (b ∷ rest)) else None)
+    else sign_kind (b ∷ rest)
+
+-- A token is a brace or a bullet that is a sentence alone; or the full stop that is the sentence's last byte; or else a word or a sign, which
+-- with the byte behind it, if there is one, is neither.
+pub data IsSpelled (sentence : List ℕ) (token : Token) : Type 0 where
+  lone : lone_kind sentence ≡ Some token.kind → token.span.from ≡ 0 → token.span.to ≡ length sentence → IsSpelled sentence token
+  full_stop :
+      lone_kind sentence ≡ None → token.kind ≡ FullStop → part token.span.from token.span.to sentence ≡ 46 ∷ [] → token.span.to ≡ length sentence →
+      IsSpelled sentence token
+  other :
+      lone_kind sentence ≡ None → (part token.span.from token.span.to sentence ≡ 46 ∷ [] → token.span.to < length sentence) →
+      spelled_kind (part token.span.from token.span.to sentence) ≡ Some token.kind →
+      (token.span.to < length sentence → spelled_kind (part token.span.from (token.span.to + 1) sentence) ≡ None) →
+      IsSpelled sentence token
+
 -- each token begins where the one before it ends, or behind, and the first at the offset `at`, or behind
 abbrev pub TokensRise : ℕ → List Token → Type 0
 TokensRise at [] = Unit {0}

@@ -3,7 +3,7 @@ ghost use Rattle.std.specs.Prelude.{◌≡◌, ℕ, List, All, ◌+◌, ◌<◌,
 ghost use Rattle.std.specs.List.{prefix_len};
 ghost use Rattle.vern_lex.specs.Comments.{IsGap, comment_length, first_place, outside};
 ghost use Rattle.vern_lex.specs.declared.sentences.CutFault.{CutFault};
-ghost use Rattle.vern_lex.specs.Sentences.{HasGapsBefore, IsCutAlone, IsFaultOf, IsSentenceSpan, Rise, last_end, place_of, is_brace, is_bullet, next_sentence, sentence_at, sentence_length, sentences_of, length_to_full_stop, stops, is_blank_or_end, within_limit};
+ghost use Rattle.vern_lex.specs.Sentences.{HasGapsBefore, IsCutAlone, IsFaultOf, IsSentenceSpan, IsWholeSentence, Rise, last_end, place_of, is_brace, is_bullet, next_sentence, sentence_at, sentence_length, sentences_of, length_to_full_stop, stops, is_blank_or_end, within_limit};
 
 use crate::comments::{comment_length, gap_length, is_blank, opens_comment};
 use crate::span::{Span, Spans};
@@ -54,12 +54,14 @@ pub fn cut_sentences(alloc: Global, text: &[u8]) -> Result<SentenceCut, NoMemory
     Ok(cut_up_to(spans, at, None))
 }
 
-/// The laws of cutting: spans rise and don't overlap, each is of a sentence, and its bytes cut alone are that
-/// sentence; `rest` is where the last ends; blanks and comments before a sentence don't belong to it, and they
-/// alone are left where there is no fault; a fault isn't before `rest`, and at its offset stands what it says.
+/// The laws of cutting: spans rise and don't overlap, each is of a sentence, goes as far as its first byte says, and
+/// its bytes cut alone are that sentence; `rest` is where the last ends; blanks and comments before a sentence don't
+/// belong to it, and they alone are left where there is no fault; a fault isn't before `rest`, and at its offset
+/// stands what it says.
 pub fn spans_are_of_sentences()
     ensures rise { (text : List ℕ) → Rise 0 (sentences_of text).spans }
     ensures each { (text : List ℕ) → All (IsSentenceSpan text) (sentences_of text).spans }
+    ensures whole { (text : List ℕ) → All (IsWholeSentence text) (sentences_of text).spans }
     ensures alone { (text : List ℕ) → All (IsCutAlone text) (sentences_of text).spans }
     ensures rest { (text : List ℕ) → (sentences_of text).rest ≡ last_end 0 (sentences_of text).spans }
     ensures between { (text : List ℕ) → All (λ b. b < 256) text → HasGapsBefore text 0 (sentences_of text).spans }
