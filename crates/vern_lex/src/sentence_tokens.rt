@@ -3,7 +3,8 @@ ghost use Rattle.std.specs.Prelude.{◌≡◌, ℕ, ◌+◌, ◌<◌, ◌==◌, 
 ghost use Rattle.std.specs.List.{list_all};
 ghost use Rattle.vern_lex.specs.Closers.{IsTable};
 ghost use Rattle.vern_lex.specs.Comments.{opens_comment};
-ghost use Rattle.vern_lex.specs.Tokens.{HasOnlyGaps, IsSpelled, IsTokenOf, TokensRise, lone_kind, next_token, token_at, token_of, tokens_behind, tokens_of, word_kind};
+ghost use Rattle.vern_lex.specs.Tokens.{HasOnlyGaps, IsSpelled, IsTokenOf, TokensRise, lone_kind, next_token, token_at, token_of};
+ghost use Rattle.vern_lex.specs.Tokens.{tokens_behind, tokens_of, word_kind};
 
 use crate::comments::{closers_table, gap_length, opens_comment, table_of};
 use crate::sentences::is_bullet;
