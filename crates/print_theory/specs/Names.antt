@@ -1,12 +1,12 @@
 -- The names that bound variables are printed with.
 use Rattle.std.specs.Prelude.{◌≡◌, ◌⊎◌, ℕ, zero, suc, ◌+◌, ◌<◌, ◌||◌, List, [], ◌∷◌, ◌++◌, length, map, Bool, true, false, nat_eq, if◌then◌else◌, Option, Some, None}
-use Rattle.std.specs.Cmp.Lexicographic.{pointwise}
+use Rattle.std.specs.List.{list_any}
 use Rattle.std.specs.Int.Digits.{digits_of}
+use Rattle.fol_theory.specs.Syntax.{is_name}
 
 -- the name is one of the names
 abbrev pub is_among : List ℕ → List (List ℕ) → Bool
-is_among x [] = false
-is_among x (y ∷ ys) = pointwise nat_eq x y || is_among x ys
+is_among x ys = list_any (is_name x) ys
 
 -- a number in decimal digits, with no zero before it
 abbrev pub numeral : ℕ → List ℕ
@@ -48,7 +48,7 @@ name_of (x ∷ xs) (suc i) = name_of xs i
 -- the newest variable with a name
 abbrev pub position : List ℕ → List (List ℕ) → Option ℕ
 position x [] = None
-position x (y ∷ ys) = if pointwise nat_eq x y then Some 0 else elim (position x ys) [ None ↦ None | Some i ↦ Some (suc i) ]
+position x (y ∷ ys) = if is_name x y then Some 0 else elim (position x ys) [ None ↦ None | Some i ↦ Some (suc i) ]
 
 -- no two are equal
 abbrev pub IsDistinct : List (List ℕ) → Type 0
