@@ -228,11 +228,8 @@ mod tests {
             None,
         ),
         (
-            b"Parameter A : Prop. Parameter B : Prop. Lemma c : A /\\ B -> B /\\ A. Proof. intro h. destruct h as [a b]. split. exact b. exact a. Qed.",
-            &[
-                0, 19, 20, 39, 40, 67, 68, 74, 75, 83, 84, 104, 105, 111, 112, 120, 121, 129, 130,
-                134,
-            ],
+            b"Parameter A : Prop. Lemma c : A -> A. Proof. intro h. exact h. Qed.",
+            &[0, 19, 20, 37, 38, 44, 45, 53, 54, 62, 63, 67],
             None,
         ),
         (

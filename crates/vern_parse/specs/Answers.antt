@@ -1,11 +1,12 @@
 -- What the functions of the parser answer, seen against the machine and the grammar.
-use Rattle.std.specs.Prelude.{◌≡◌, ℕ, zero, suc, ◌+◌, ◌≤◌, Bool, true, false, not, ◌&&◌, nat_le, List, [], ◌∷◌, ◌++◌, length, Option, Some, None, Result, Ok, Err}
+use Rattle.std.specs.Prelude.{◌≡◌, ℕ, zero, suc, ◌+◌, ◌≤◌, Bool, true, false, not, ◌&&◌, nat_le, List, [], ◌∷◌, ◌++◌, length, Option, Some}
+use Rattle.std.specs.Prelude.{None, Result, Ok, Err}
 use Rattle.vern_lex.specs.declared.token.Token.{Token}
 use Rattle.vern_grammar.specs.Trees as tree
 use Rattle.vern_grammar.specs.Kinds.{Lexeme, lexemes}
 use Rattle.vern_grammar.specs.Levels.{op_level, limit}
 use Rattle.vern_grammar.specs.Grammar.{room, IsFault}
-use Rattle.vern_grammar.specs.Machine.{State, at, depth, governor, Phrase, an_expression, a_shape, parsed, Fails, start, run}
+use Rattle.vern_grammar.specs.Machine.{State, at, depth, governor, Fails}
 use Rattle.vern_grammar.specs.Machine as machine
 use Rattle.vern_parse.specs.declared.raw.RawExpr.{RawExpr}
 use Rattle.vern_parse.specs.declared.raw.Shape.{Shape}
@@ -55,15 +56,7 @@ Bounded (GroupEnd b) s = depth (frames s) + b.bound ≤ limit
 Bounded (InGroups b) s = depth (frames s) + b.bound ≤ limit
 Bounded _ s = Unit {0}
 
-abbrev pub expression_in : Option Phrase → Option tree.Expression
-expression_in (Some (an_expression t)) = Some t
-expression_in _ = None
-
-abbrev pub shape_in : Option Phrase → Option tree.Shape
-shape_in (Some (a_shape t)) = Some t
-shape_in _ = None
-
--- The same of a token, whose place is told where it is refused.
+-- The same of a token, whose offset is told where it is refused.
 abbrev pub Takes : Result Mode ParseFault → List Frame → Token → Option State → Type 0
 Takes (Ok m) s token to = to ≡ Some (at (mode m) (frames s))
 Takes (Err (fault.At p)) s token to = (to ≡ None) × (p ≡ token.span.from)
@@ -75,6 +68,7 @@ EndsExpression (Ok t) m = m ≡ Some (expression t)
 EndsExpression (Err Refused) m = m ≡ None
 EndsExpression (Err NoMemory) m = Unit {0}
 
+-- The same of a shape.
 abbrev pub EndsShape : Result Shape Stop → Option tree.Shape → Type 0
 EndsShape (Ok t) m = m ≡ Some (shape t)
 EndsShape (Err Refused) m = m ≡ None
@@ -86,7 +80,8 @@ offset sentence [] i = length sentence
 offset sentence (t ∷ ts) zero = t.span.from
 offset sentence (t ∷ ts) (suc i) = offset sentence ts i
 
--- The fault is at the first token with which the tokens so far begin no tree of the grammar `R`, or at the sentence's length where all of them
+-- The fault is at the first token with which the tokens so far begin no tree of the grammar `R`, or at the sentence's length where all of
+-- them
 -- begin one and are none. Want of memory says nothing.
 abbrev pub IsFaultOf : {A : Type 0} → (List Lexeme → A → Type 0) → List ℕ → List Token → ParseFault → Type 0
 IsFaultOf R sentence tokens (fault.At p) = (i : ℕ) × IsFault R (lexemes sentence tokens) i × (p ≡ offset sentence tokens i)
