@@ -1,4 +1,5 @@
 //! What a session did, in order.
+
 use crate::cut::Cut;
 use crate::lines::Lines;
 use base_core::SparedSequence;
