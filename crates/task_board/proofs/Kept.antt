@@ -10,7 +10,7 @@ use Rattle.task_board.specs.declared.standing.Standing.{Standing}
 use Rattle.task_board.specs.declared.standing.Standing.TheVariants.{Waiting, Held}
 use Rattle.task_board.specs.declared.slot.Slot.{Slot}
 use Rattle.task_board.specs.Places.{nothing, least_number}
-use Rattle.task_board.specs.Rows.{Table, Row, moved, claimed, posted, with_rows, least_waiting, least_left, all_done, holder, outcome_of, work_of, result_of, is_done, is_held, stand, stand_at, without_block, has_row, Numbered, is_waiting, is_left}
+use Rattle.task_board.specs.Rows.{Table, IsTable, Row, moved, claimed, posted, with_rows, least_waiting, least_left, all_done, holder, outcome_of, work_of, result_of, is_done, is_held, stand, stand_at, without_block, has_row, Numbered, is_waiting, is_left}
 use Rattle.task_board.specs.Slots.{row, row_in, rows_of, restood, emptied, Rising, Below, IsAt, Marks, Finds, Changes, IsKept, key, full}
 use Rattle.task_board.proofs.Full.{rows-full, rising-full, below-full}
 use Rattle.task_board.proofs.Seen.{eqb-same, eqb-apart, stand-here, found-at, not-lost, find-at, passes}
@@ -461,3 +461,7 @@ module _ {T R : Type 0} where
           },
           rows-full ss,
         )
+
+    -- what every table is
+    pub is-table : IsTable (table (rows_of ss) next room)
+    is-table = record { numbered = numbered 0 next ss (omega arith) k.rising k.below; few = k.few; blocks = k.apart }

@@ -70,6 +70,14 @@ impl<T: Drop, R: Drop> Board<T, R> {
         }
     }
 
+    /// How many rows were posted so far, which is the next number.
+    pub fn posted(&self) -> u64
+        ensures posted { result ≡ self.now.next }
+        ensures valid { IsTable self.now }
+    {
+        self.next
+    }
+
     /// The least number that waits.
     pub fn least_waiting(&self) -> Option<u64>
         ensures { result ≡ least_waiting self.now.rows }

@@ -5,81 +5,103 @@ use std::alloc::AllocGlobal;
 use std::process::Abort;
 use std::test::Fail;
 
-/// What is left: the least number that waits, the least that isn't done with its seat, and whether all are done.
-type Left = (Option<u64>, Option<(u64, Option<u32>)>, bool);
+#[derive(Clone, Copy)]
+enum Call {
+    Post(u64),
+    Claim(u32),
+    Settle(u32, u64),
+    Lose(u32, u64),
+    Withdraw(u64),
+    Close,
+}
 
-fn assert_left(rt: &(impl Abort + AllocGlobal), board: &Board<u8, u8>, expected: Left) {
-    assert_eq!(rt; board.least_waiting(), expected.0);
-    assert_eq!(rt; board.least_left(), expected.1);
-    assert_eq!(rt; board.all_done(), expected.2);
+/// A number that isn't done, and the seat that holds it.
+type Left = (u64, Option<u32>);
+
+/// What is called; the number that is posted, claimed or kept; then the least that waits and the least that is left.
+type Step = (Call, Option<u64>, Option<u64>, Option<Left>);
+
+const STEPS: [Step; 22] = [
+    (Call::Claim(1), None, None, None),
+    (Call::Post(5), Some(0), Some(0), Some((0, None))),
+    (Call::Post(9), Some(1), Some(0), Some((0, None))),
+    (Call::Post(7), Some(2), Some(0), Some((0, None))),
+    (Call::Claim(1), Some(0), Some(1), Some((0, Some(1)))),
+    (Call::Claim(2), Some(1), Some(2), Some((0, Some(1)))),
+    // Another seat's result, one of a number that waits, and one of no row.
+    (Call::Settle(2, 0), None, Some(2), Some((0, Some(1)))),
+    (Call::Settle(1, 2), None, Some(2), Some((0, Some(1)))),
+    (Call::Settle(1, 8), None, Some(2), Some((0, Some(1)))),
+    // A lost task goes back to its place, and is the next that is claimed.
+    (Call::Lose(2, 0), None, Some(2), Some((0, Some(1)))),
+    (Call::Lose(1, 0), None, Some(0), Some((0, None))),
+    (Call::Claim(2), Some(0), Some(2), Some((0, Some(2)))),
+    (Call::Settle(2, 0), Some(0), Some(2), Some((1, Some(2)))),
+    (Call::Settle(2, 0), None, Some(2), Some((1, Some(2)))),
+    // The block of a held row goes and comes again; the late result of its first row is dropped.
+    (Call::Withdraw(9), None, Some(2), Some((2, None))),
+    (Call::Post(9), Some(3), Some(2), Some((2, None))),
+    (Call::Settle(2, 1), None, Some(2), Some((2, None))),
+    (Call::Withdraw(7), None, Some(3), Some((3, None))),
+    (Call::Claim(1), Some(3), None, Some((3, Some(1)))),
+    (Call::Settle(1, 3), Some(3), None, None),
+    (Call::Close, None, None, None),
+    (Call::Settle(1, 3), None, None, None),
+];
+
+fn answer(
+    rt: &(impl Abort + AllocGlobal),
+    board: &mut Board<u64, u64>,
+    call: Call,
+) -> Result<Option<u64>, NoMemory> {
+    match call {
+        Call::Post(block) => {
+            assert!(rt; !board.has_row(block) && board.posted() < 1000);
+            return Ok(Some(board.post(block, block)?));
+        }
+        Call::Claim(seat) => return Ok(board.claim(seat)),
+        Call::Settle(seat, number) => {
+            let settled = board.settle(seat, number, number);
+            return Ok((settled == Settled::Kept).then_some(number));
+        }
+        Call::Lose(seat, number) => board.lose(seat, number),
+        Call::Withdraw(block) => board.withdraw(block),
+        Call::Close => board.close(),
+    }
+    Ok(None)
 }
 
 #[test]
 fn two_seats_share_the_rows(rt: HostRuntime) -> Result<(), Fail> {
-    let mut board: Board<u8, u8> = Board::new(rt.alloc());
-    assert_left(&rt, &board, (None, None, true));
-    assert_eq!(rt; board.claim(1), None);
+    let mut board: Board<u64, u64> = Board::new(rt.alloc());
     board.reserve(2)?;
-    assert_eq!(rt; board.post(5, 50)?, 0);
-    assert_eq!(rt; board.post(9, 90)?, 1);
-    assert_eq!(rt; board.post(7, 70)?, 2);
-    assert_left(&rt, &board, (Some(0), Some((0, None)), false));
-    assert_eq!(rt; board.claim(1), Some(0));
-    assert_eq!(rt; board.claim(2), Some(1));
-    assert_left(&rt, &board, (Some(2), Some((0, Some(1))), false));
-    // Another seat's result is dropped, and so is one of a number that waits.
-    assert_eq!(rt; board.settle(2, 0, 1), Settled::Dropped);
-    assert_eq!(rt; board.settle(1, 2, 1), Settled::Dropped);
-    // A lost task goes back to its place, and is the next that is claimed.
-    board.lose(2, 0);
-    assert_left(&rt, &board, (Some(2), Some((0, Some(1))), false));
-    board.lose(1, 0);
-    assert_left(&rt, &board, (Some(0), Some((0, None)), false));
-    assert_eq!(rt; board.claim(2), Some(0));
-    assert_eq!(rt; board.settle(2, 0, 30), Settled::Kept);
-    assert_eq!(rt; board.settle(2, 0, 31), Settled::Dropped);
-    assert_eq!(rt; board.result(5).copied(), Some(30));
-    assert_eq!(rt; board.result(9).copied(), None);
-    assert_eq!(rt; board.work(1).copied(), Some(90));
-    assert_left(&rt, &board, (Some(2), Some((1, Some(2))), false));
-    Ok(())
-}
-
-#[test]
-fn a_row_that_went_is_never_met_again(rt: HostRuntime) -> Result<(), Fail> {
-    let mut board: Board<u8, u8> = Board::new(rt.alloc());
-    assert_eq!(rt; board.post(5, 50)?, 0);
-    assert_eq!(rt; board.claim(1), Some(0));
-    board.withdraw(5);
-    board.withdraw(6);
-    assert!(rt; !board.has_row(5));
-    assert_eq!(rt; board.work(0).copied(), None);
-    assert_left(&rt, &board, (None, None, true));
-    assert_eq!(rt; board.post(5, 51)?, 1);
-    assert_eq!(rt; board.claim(1), Some(1));
-    // The late result of the row that went, and then the one of the row that is there.
-    assert_eq!(rt; board.settle(1, 0, 30), Settled::Dropped);
-    assert_eq!(rt; board.settle(1, 1, 31), Settled::Kept);
-    assert_eq!(rt; board.result(5).copied(), Some(31));
-    assert_left(&rt, &board, (None, None, true));
-    board.close();
-    assert!(rt; !board.has_row(5));
-    assert_eq!(rt; board.settle(1, 1, 32), Settled::Dropped);
-    assert_left(&rt, &board, (None, None, true));
+    for (call, expected, waiting, left) in STEPS {
+        assert_eq!(rt; answer(&rt, &mut board, call)?, expected);
+        assert_eq!(rt; board.least_waiting(), waiting);
+        assert_eq!(rt; board.least_left(), left);
+        assert_eq!(rt; board.all_done(), left.is_none());
+    }
     Ok(())
 }
 
 #[test]
 fn places_of_rows_that_went_are_used_again(rt: HostRuntime) -> Result<(), Fail> {
-    let mut board: Board<u8, u8> = Board::new(rt.alloc());
-    assert_eq!(rt; board.post(1000, 7)?, 0);
-    for number in 1..20 {
-        assert_eq!(rt; board.post(number, 1)?, number);
-        assert_eq!(rt; board.claim(3), Some(number - 1));
-        board.withdraw(number - 1);
+    let mut board: Board<u64, u64> = Board::new(rt.alloc());
+    for number in 0..40 {
+        assert_eq!(rt; answer(&rt, &mut board, Call::Post(number))?, Some(number));
+        assert_eq!(rt; board.claim(1), Some(number));
+        assert_eq!(rt; board.work(number).copied(), Some(number));
+        if number % 2 == 0 {
+            board.withdraw(number);
+        } else {
+            assert_eq!(rt;
+                answer(&rt, &mut board, Call::Settle(1, number))?,
+                Some(number)
+            );
+            assert_eq!(rt; board.result(number).copied(), Some(number));
+        }
+        assert_eq!(rt; board.has_row(number), number % 2 == 1);
+        assert!(rt; board.all_done());
     }
-    assert_eq!(rt; board.least_left(), Some((0, Some(3))));
-    assert_eq!(rt; board.settle(3, 0, 9), Settled::Kept);
-    assert_left(&rt, &board, (Some(19), Some((19, None)), false));
     Ok(())
 }
