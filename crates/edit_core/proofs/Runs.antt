@@ -1,11 +1,10 @@
 -- A Cancel that is under way.
-use Rattle.std.proofs.Common.{◌≡◌, ℕ, zero, suc, ◌+◌, ◌<◌, ◌≤◌, nat_eq, ◌||◌, List, [], ◌∷◌, ◌++◌, map, length, drop, Bool, true, false, not, if◌then◌else◌, Option, Some, None, refl, sym, ap, ◌∙◌, arith, append_assoc, append-nil, slice_index_or}
-use Rattle.line_theory.specs.Lists.{has, chosen, missing_in}
+use Rattle.std.proofs.Common.{◌≡◌, ℕ, zero, suc, ◌+◌, ◌<◌, ◌≤◌, nat_eq, List, [], ◌∷◌, ◌++◌, map, length, drop, true, not, if◌then◌else◌, Some, None, refl, sym, ap, ◌∙◌, arith, append_assoc, append-nil, slice_index_or}
+use Rattle.line_theory.specs.Lists.{has, missing_in}
 use Rattle.line_theory.specs.Lines.{Line, ids}
-use Rattle.line_theory.specs.Edits.{Edited as Change, changed, zone_open, unknown, outcome, removed, lost, Cancelled, none_left, skipped, put_edit, cancel_step, cancelled}
+use Rattle.line_theory.specs.Edits.{Edited as Change, changed, zone_open, unknown, outcome, removed, lost, none_left, skipped, put_edit, cancel_step, cancelled}
 use Rattle.line_theory.proofs.Lists.{left_true, right_true, test_same}
 use Rattle.edit_core.specs.declared.edit.Edited.{Edited}
-use Rattle.edit_core.specs.declared.removal.End.{End}
 use Rattle.edit_core.specs.declared.removal.Removal.{Removal}
 use Rattle.edit_core.specs.declared.removal.Removal.TheVariants.{Unknown, Refused, Removed}
 use Rattle.edit_core.specs.Told.{told_outcome, line_after}
@@ -62,7 +61,8 @@ refused_change unknown s h = absurd (cc)
 refused_change (changed d) s h = absurd (cc)
 refused_change (zone_open c) s h = let q : c ≡ s = cc in ap zone_open q
 
-removed_change : (ch : Change) (d : Line) (v : Edited) → as_removal ch ≡ Removed v → (ch ≡ changed (line_after ch d)) × (told_outcome (outcome (line_after ch d)) ≡ v)
+removed_change : (ch : Change) (d : Line) (v : Edited) → as_removal ch ≡ Removed v → (ch ≡ changed (line_after ch d)) ×
+    (told_outcome (outcome (line_after ch d)) ≡ v)
 removed_change unknown d v h = absurd (cc)
 removed_change (zone_open c) d v h = absurd (cc)
 removed_change (changed e) d v h = (refl, cc)
@@ -73,14 +73,18 @@ module _ {list : List ℕ} {k : ℕ} {d0 d : Line} {e0 e : List Edited} {g0 g : 
     next = ap (λ z. cancelled z d) (dropped_next list k n x u h a)
 
     -- an id that isn't there
-    pub running_skip : (w : Removal) → w ≡ as_removal (removed x d) → w ≡ Unknown → (y : Line) → y ≡ line_after (removed x d) d → (q : List ℕ) → q ≡ g ++ lost d y → Running list n d0 y e0 e g0 q (t + 1)
+    pub running_skip : (w : Removal) → w ≡ as_removal (removed x d) → w ≡ Unknown → (y : Line) → y ≡ line_after (removed x d) d
+        → (q : List ℕ) → q ≡ g ++ lost d y → Running list n d0 y e0 e g0 q (t + 1)
     running_skip w m v y l q p =
         let c : removed x d ≡ unknown = unknown_change (removed x d) (sym m ∙ v) in
-        let s : cancelled (drop k list) d ≡ skipped (cancelled (drop n list) y) = next ∙ (ap (λ z. cancel_step x d z (cancelled (drop n list))) c ∙ ap (λ z. skipped (cancelled (drop n list) z)) (sym (l ∙ ap (λ z. line_after z d) c))) in
+        let s : cancelled (drop k list) d ≡ skipped (cancelled (drop n list) y) = next ∙
+        (ap (λ z. cancel_step x d z (cancelled (drop n list))) c ∙ ap (λ z. skipped (cancelled (drop n list) z))
+        (sym (l ∙ ap (λ z. line_after z d) c))) in
         record {
           line = r.line ∙ ap (λ z. z.line) s;
           edits = r.edits ∙ ap (λ z. e ++ map told_outcome z.edits) s;
-          gone = r.gone ∙ (ap (λ z. g ++ z.gone) s ∙ ap (λ z. z ++ (cancelled (drop n list) y).gone) (nothing_lost g d ∙ (ap (λ z. g ++ lost d z) (sym (l ∙ ap (λ z. line_after z d) c)) ∙ sym p)));
+          gone = r.gone ∙ (ap (λ z. g ++ z.gone) s ∙ ap (λ z. z ++ (cancelled (drop n list) y).gone) (nothing_lost g d ∙
+              (ap (λ z. g ++ lost d z) (sym (l ∙ ap (λ z. line_after z d) c)) ∙ sym p)));
           treated = r.treated ∙ (ap (λ z. t + z.treated) s ∙ more t (cancelled (drop n list) y).treated);
           stopped = r.stopped ∙ ap (λ z. z.stopped) s;
         }
@@ -89,18 +93,23 @@ module _ {list : List ℕ} {k : ℕ} {d0 d : Line} {e0 e : List Edited} {g0 g : 
         more p q = omega arith
 
     -- an id that goes
-    pub running_more : (w : Removal) → w ≡ as_removal (removed x d) → (v : Edited) → w ≡ Removed v → (y : Line) → y ≡ line_after (removed x d) d → (q : List ℕ) → q ≡ g ++ lost d y
+    pub running_more : (w : Removal) → w ≡ as_removal (removed x d) → (v : Edited) → w ≡ Removed v → (y : Line) →
+        y ≡ line_after (removed x d) d → (q : List ℕ) → q ≡ g ++ lost d y
         → (b : List Edited) → b ≡ e ++ (v ∷ []) → Running list n d0 y e0 b g0 q (t + 1)
     running_more w m v f y l q p b o =
         let c = removed_change (removed x d) d v (sym m ∙ f) in
         let ch : removed x d ≡ changed y = c.0 ∙ ap changed (sym l) in
         let tv : told_outcome (outcome y) ≡ v = ap (λ z. told_outcome (outcome z)) l ∙ c.1 in
-        let s : cancelled (drop k list) d ≡ put_edit (outcome y) (lost d y) (cancelled (drop n list) y) = next ∙ ap (λ z. cancel_step x d z (cancelled (drop n list))) ch in
+        let s : cancelled (drop k list) d ≡ put_edit (outcome y) (lost d y) (cancelled (drop n list) y) = next ∙
+        ap (λ z. cancel_step x d z (cancelled (drop n list))) ch in
         record {
           line = r.line ∙ ap (λ z. z.line) s;
-          edits = r.edits ∙ (ap (λ z. e ++ map told_outcome z.edits) s ∙ (ap (λ z. e ++ (z ∷ map told_outcome (cancelled (drop n list) y).edits)) tv
-              ∙ (sym (append_assoc e (v ∷ []) (map told_outcome (cancelled (drop n list) y).edits)) ∙ ap (λ z. z ++ map told_outcome (cancelled (drop n list) y).edits) (sym o))));
-          gone = r.gone ∙ (ap (λ z. g ++ z.gone) s ∙ (sym (append_assoc g (lost d y) (cancelled (drop n list) y).gone) ∙ ap (λ z. z ++ (cancelled (drop n list) y).gone) (sym p)));
+          edits = r.edits ∙ (ap (λ z. e ++ map told_outcome z.edits) s ∙
+              (ap (λ z. e ++ (z ∷ map told_outcome (cancelled (drop n list) y).edits)) tv
+              ∙ (sym (append_assoc e (v ∷ []) (map told_outcome (cancelled (drop n list) y).edits)) ∙
+              ap (λ z. z ++ map told_outcome (cancelled (drop n list) y).edits) (sym o))));
+          gone = r.gone ∙ (ap (λ z. g ++ z.gone) s ∙ (sym (append_assoc g (lost d y) (cancelled (drop n list) y).gone) ∙
+              ap (λ z. z ++ (cancelled (drop n list) y).gone) (sym p)));
           treated = r.treated ∙ (ap (λ z. t + z.treated) s ∙ more t (cancelled (drop n list) y).treated);
           stopped = r.stopped ∙ ap (λ z. z.stopped) s;
         }
@@ -109,8 +118,10 @@ module _ {list : List ℕ} {k : ℕ} {d0 d : Line} {e0 e : List Edited} {g0 g : 
         more p q = omega arith
 
     -- an id that ends the Cancel
-    pub running_stop : (w : Removal) → w ≡ as_removal (removed x d) → (c : ℕ) → w ≡ Refused c → (y : Line) → y ≡ line_after (removed x d) d → (q : List ℕ) → q ≡ g ++ lost d y
-        → (y ≡ (cancelled list d0).line) × ((e ≡ e0 ++ map told_outcome (cancelled list d0).edits) × ((q ≡ g0 ++ (cancelled list d0).gone) × (record { treated = t; stopped = Some (x, c) } ≡ end_of (cancelled list d0))))
+    pub running_stop : (w : Removal) → w ≡ as_removal (removed x d) → (c : ℕ) → w ≡ Refused c → (y : Line) →
+        y ≡ line_after (removed x d) d → (q : List ℕ) → q ≡ g ++ lost d y
+        → (y ≡ (cancelled list d0).line) × ((e ≡ e0 ++ map told_outcome (cancelled list d0).edits) ×
+        ((q ≡ g0 ++ (cancelled list d0).gone) × (record { treated = t; stopped = Some (x, c) } ≡ end_of (cancelled list d0))))
     running_stop w m c v y l q p =
         let ch : removed x d ≡ zone_open c = refused_change (removed x d) c (sym m ∙ v) in
         let same : y ≡ d = l ∙ ap (λ z. line_after z d) ch in
@@ -131,7 +142,8 @@ module _ {list : List ℕ} {k : ℕ} {d0 d : Line} {e0 e : List Edited} {g0 g : 
         none n = omega arith
 
   -- all were taken
-  pub running_end : length list ≤ k → (d ≡ (cancelled list d0).line) × ((e ≡ e0 ++ map told_outcome (cancelled list d0).edits) × ((g ≡ g0 ++ (cancelled list d0).gone) × (record { treated = t; stopped = None } ≡ end_of (cancelled list d0))))
+  pub running_end : length list ≤ k → (d ≡ (cancelled list d0).line) × ((e ≡ e0 ++ map told_outcome (cancelled list d0).edits) ×
+      ((g ≡ g0 ++ (cancelled list d0).gone) × (record { treated = t; stopped = None } ≡ end_of (cancelled list d0))))
   running_end h =
       let s : cancelled (drop k list) d ≡ none_left d None = ap (λ z. cancelled z d) (dropped_last list k h) in
       let tr : t ≡ (cancelled list d0).treated = sym (r.treated ∙ (ap (λ z. t + z.treated) s ∙ none t)) in

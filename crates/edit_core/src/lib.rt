@@ -9,8 +9,6 @@
 mod add;
 mod edit;
 mod removal;
-#[cfg(test)]
-mod tests;
 
 pub use add::{Step, add_at_cursor, close_zone};
 pub use edit::{Edited, Edits, edit_at};

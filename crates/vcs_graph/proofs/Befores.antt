@@ -1,5 +1,36 @@
 -- The id before another.
-use Rattle.std.proofs.Common.{◌≡◌, ℕ, zero, suc, ◌<◌, ◌≤◌, nat_eq, List, [], ◌∷◌, ◌++◌, length, take, drop, Bool, true, false, ◌||◌, cond, Option, Some, None, refl, sym, ap, subst, ◌∙◌, arith, append_assoc, slice_index_or}
+use Rattle.std.proofs.Common.{
+  ◌≡◌,
+  ℕ,
+  zero,
+  suc,
+  ◌<◌,
+  ◌≤◌,
+  nat_eq,
+  List,
+  [],
+  ◌∷◌,
+  ◌++◌,
+  length,
+  take,
+  drop,
+  Bool,
+  true,
+  false,
+  ◌||◌,
+  cond,
+  Option,
+  Some,
+  None,
+  refl,
+  sym,
+  ap,
+  subst,
+  ◌∙◌,
+  arith,
+  append_assoc,
+  slice_index_or,
+}
 use Rattle.std.specs.Prelude.{is_some}
 use Rattle.indexmap.specs.IndexMap.{IndexMap}
 use Rattle.line_theory.specs.Lists.{has, last_or, before_in}
@@ -62,7 +93,8 @@ part_ids : (i : ℕ) (p : Part) (x : Item ℕ Closing) → IsPart i p x → item
 part_ids i First (lone e) h = ap (λ z. z ∷ []) (sym h)
 part_ids i First (block l b c) h = ap (λ z. z ∷ (b ++ (c.id ∷ []))) (sym h)
 part_ids i (Inside zero) (block l b c) h = absurd h
-part_ids i (Inside (suc j)) (block l b c) h = ap (λ z. l ∷ (z ++ (c.id ∷ []))) h.1 ∙ ap (λ z. l ∷ z) (append_assoc (take j b) (i ∷ drop (suc j) b) (c.id ∷ []))
+part_ids i (Inside (suc j)) (block l b c) h = ap (λ z. l ∷ (z ++ (c.id ∷ []))) h.1 ∙
+    ap (λ z. l ∷ z) (append_assoc (take j b) (i ∷ drop (suc j) b) (c.id ∷ []))
 part_ids i Closer (block l b c) h = ap (λ z. l ∷ (b ++ (z ∷ []))) (sym h)
 part_ids i (Inside j) (lone e) h = absurd h
 part_ids i Closer (lone e) h = absurd h
@@ -84,8 +116,10 @@ end_part_ids i (Inside j) closed h = absurd h
 end_part_ids i Closer closed h = absurd h
 
 -- a list whose parts are known, at the number of the one in the middle
-pub parted_by : {A : Type 0} (f : List A) (x : A) (t xs : List A) (k : ℕ) → xs ≡ f ++ (x ∷ t) → length f ≡ k → (take k xs ≡ f) × ((d : A) → slice_index_or xs k d ≡ x)
-parted_by {A = A} f x t xs k e c = subst (λ y. (take y xs ≡ f) × ((d : A) → slice_index_or xs y d ≡ x)) c (subst (λ y. (take (length f) y ≡ f) × ((d : A) → slice_index_or y (length f) d ≡ x)) (sym e) (front_taken f, λ d. middle f d))
+pub parted_by : {A : Type 0} (f : List A) (x : A) (t xs : List A) (k : ℕ) → xs ≡ f ++ (x ∷ t) → length f ≡ k → (take k xs ≡ f) ×
+    ((d : A) → slice_index_or xs k d ≡ x)
+parted_by {A = A} f x t xs k e c = subst (λ y. (take y xs ≡ f) × ((d : A) → slice_index_or xs y d ≡ x)) c
+    (subst (λ y. (take (length f) y ≡ f) × ((d : A) → slice_index_or y (length f) d ≡ x)) (sym e) (front_taken f, λ d. middle f d))
   where
     front_taken : (f : List A) → take (length f) (f ++ (x ∷ t)) ≡ f
     front_taken [] = refl
@@ -98,30 +132,39 @@ parted_by {A = A} f x t xs k e c = subst (λ y. (take y xs ≡ f) × ((d : A) �
 module _ {S : Type 0} {a : List (Item ℕ Closing)} {o : End ℕ} {z : Option Opened} {m : IndexMap ℕ Place S} (k : Kept a o z m) where
   before_at : (i : ℕ) (f g : List ℕ) → items_ids a ++ end_ids o ≡ f ++ (i ∷ g) → before i (line_of a o z) ≡ last_or 1 f
   before_at i f g e =
-      ap (before_in 1 i) (kept_ids k ∙ (all_keys a o ∙ e)) ∙ before_front 1 i f g (front_free i (all_places a o) f g k.table.apart (all_keys a o ∙ e))
+      ap (before_in 1 i) (kept_ids k ∙ (all_keys a o ∙ e)) ∙
+      before_front 1 i f g (front_free i (all_places a o) f g k.table.apart (all_keys a o ∙ e))
 
   -- before an id of the items
-  pub before_item : (i : ℕ) (p : Place) (s : Spotted i 0 p a) → before i (line_of a o z) ≡ last_or (last_or 1 (items_ids s.front)) (part_front p.part s.item)
+  pub before_item : (i : ℕ) (p : Place) (s : Spotted i 0 p a) → before i (line_of a o z)
+      ≡ last_or (last_or 1 (items_ids s.front)) (part_front p.part s.item)
   before_item i p s =
       let e : items_ids a ≡ items_ids s.front ++ ((part_front p.part s.item ++ (i ∷ part_back p.part s.item)) ++ items_ids s.rest) =
-      ap items_ids s.whole ∙ (items_join s.front (s.item ∷ s.rest) ∙ ap (λ y. items_ids s.front ++ (y ++ items_ids s.rest)) (part_ids i p.part s.item s.part)) in
-      before_at i (items_ids s.front ++ part_front p.part s.item) (part_back p.part s.item ++ (items_ids s.rest ++ end_ids o)) (ap (λ y. y ++ end_ids o) e ∙ simp append_assoc)
+      ap items_ids s.whole ∙ (items_join s.front (s.item ∷ s.rest) ∙ ap (λ y. items_ids s.front ++ (y ++ items_ids s.rest))
+      (part_ids i p.part s.item s.part)) in
+      before_at i (items_ids s.front ++ part_front p.part s.item) (part_back p.part s.item ++ (items_ids s.rest ++ end_ids o))
+      (ap (λ y. y ++ end_ids o) e ∙ simp append_assoc)
       ∙ last_join 1 (items_ids s.front) (part_front p.part s.item)
 
   -- before an id of the open block
-  pub before_end : (i : ℕ) (p : Place) → IsEndPart i p.part o → before i (line_of a o z) ≡ last_or (last_or 1 (items_ids a)) (end_front p.part o)
+  pub before_end : (i : ℕ) (p : Place) → IsEndPart i p.part o → before i (line_of a o z) ≡ last_or (last_or 1 (items_ids a))
+      (end_front p.part o)
   before_end i p h =
-      before_at i (items_ids a ++ end_front p.part o) (end_back p.part o) (ap (λ y. items_ids a ++ y) (end_part_ids i p.part o h) ∙ sym (append_assoc (items_ids a) (end_front p.part o) (i ∷ end_back p.part o)))
+      before_at i (items_ids a ++ end_front p.part o) (end_back p.part o)
+      (ap (λ y. items_ids a ++ y) (end_part_ids i p.part o h) ∙
+      sym (append_assoc (items_ids a) (end_front p.part o) (i ∷ end_back p.part o)))
       ∙ last_join 1 (items_ids a) (end_front p.part o)
 
   -- the answer for an id with a place among the items
-  pub before_found : (i : ℕ) (p : Place) (r : Option Place) → r ≡ look i (all_places a o) → r ≡ Some p → p.item < length a → (x : Item ℕ Closing) → x ≡ slice_index_or a p.item x
+  pub before_found : (i : ℕ) (p : Place) (r : Option Place) → r ≡ look i (all_places a o) → r ≡ Some p → p.item < length a →
+      (x : Item ℕ Closing) → x ≡ slice_index_or a p.item x
       → (w : ℕ) → w ≡ last_or 1 (items_ids (take p.item a)) → last_or w (part_front p.part x) ≡ before i (line_of a o z)
   before_found i p r e f h x g w v =
       let s = found_item i p a o (sym e ∙ f) h in
       let c : length s.front ≡ p.item = omega (arith, s.count) in
       let q = parted_by s.front s.item s.rest a p.item s.whole c in
-      ap (λ y. last_or y (part_front p.part x)) (v ∙ ap (λ y. last_or 1 (items_ids y)) q.0) ∙ (ap (λ y. last_or (last_or 1 (items_ids s.front)) (part_front p.part y)) (g ∙ q.1 x) ∙ sym (before_item i p s))
+      ap (λ y. last_or y (part_front p.part x)) (v ∙ ap (λ y. last_or 1 (items_ids y)) q.0) ∙
+      (ap (λ y. last_or (last_or 1 (items_ids s.front)) (part_front p.part y)) (g ∙ q.1 x) ∙ sym (before_item i p s))
 
   pub before_found_end : (i : ℕ) (p : Place) (r : Option Place) → r ≡ look i (all_places a o) → r ≡ Some p → length a ≤ p.item
       → (w : ℕ) → w ≡ last_or 1 (items_ids a) → last_or w (end_front p.part o) ≡ before i (line_of a o z)

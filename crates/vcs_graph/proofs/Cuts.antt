@@ -1,6 +1,5 @@
 -- All behind a place goes.
-use Rattle.std.proofs.Common.{◌≡◌, ◌⊎◌, inl, inr, ℕ, zero, suc, ◌+◌, ◌<◌, ◌≤◌, List, [], ◌∷◌, ◌++◌, length, take, true, false, refl, sym, ap, subst, ◌∙◌, arith, length-append, append-nil, slice_index_or}
-use Rattle.std.specs.Prelude.{is_some}
+use Rattle.std.proofs.Common.{◌≡◌, ℕ, zero, suc, ◌+◌, ◌<◌, ◌≤◌, List, [], ◌∷◌, ◌++◌, length, take, true, false, refl, sym, ap, subst, ◌∙◌, arith, length-append, append-nil, slice_index_or}
 use Rattle.indexmap.specs.IndexMap.{IndexMap}
 use Rattle.line_theory.specs.Shapes.{Item, lone, block, End, closed, proof}
 use Rattle.line_theory.specs.Lines.{Closing}
@@ -18,7 +17,8 @@ take_count (suc k) [] h = absurd (omega arith)
 take_count (suc k) (x ∷ b) h = ap suc (take_count k b (omega arith))
 
 -- of a list up to a place, what was popped is what stood there
-pub popped : {A : Type 0} (xs is ps : List A) (s : A) (k n : ℕ) → n ≡ suc k → k < length xs → is ≡ take n xs → is ≡ ps ++ (s ∷ []) → (d : A) → slice_index_or is k d ≡ s
+pub popped : {A : Type 0} (xs is ps : List A) (s : A) (k n : ℕ) → n ≡ suc k → k < length xs → is ≡ take n xs →
+    is ≡ ps ++ (s ∷ []) → (d : A) → slice_index_or is k d ≡ s
 popped xs is ps s k n g h e f d =
     let c : length is ≡ n = ap length e ∙ take_count n xs (omega arith) in
     let l : length is ≡ length ps + 1 = ap length f ∙ length-append ps (s ∷ []) in
@@ -47,7 +47,8 @@ opening First (block l b c) h = record { lemma = l; inside = b; closer = c; is =
 opening (Inside j) (block l b c) h = record { lemma = l; inside = b; closer = c; is = refl; items = λ f. refl; end = refl }
 opening Closer (block l b c) h = absurd (cc)
 
-pub stays : (q : Part) (f : List (Item ℕ Closing)) (x : Item ℕ Closing) → opens_behind q x ≡ false → (f ++ (x ∷ []) ≡ cut_items q f x) × (closed ≡ cut_end q x)
+pub stays : (q : Part) (f : List (Item ℕ Closing)) (x : Item ℕ Closing) → opens_behind q x ≡ false →
+    (f ++ (x ∷ []) ≡ cut_items q f x) × (closed ≡ cut_end q x)
 stays First f (lone i) h = (refl, refl)
 stays (Inside j) f (lone i) h = (refl, refl)
 stays Closer f (lone i) h = (refl, refl)
@@ -81,7 +82,8 @@ goes (Inside j) (block l b c) h = absurd (cc)
 goes Closer (block l b c) h = absurd (cc)
 
 -- of a list up to a place, the last is what stands there
-pub up_to_last : {A : Type 0} (f t xs is : List A) (x y : A) (k n : ℕ) → n ≡ suc k → is ≡ take n xs → xs ≡ f ++ (x ∷ t) → length f ≡ k → y ≡ slice_index_or is k y → (is ≡ f ++ (x ∷ [])) × (y ≡ x)
+pub up_to_last : {A : Type 0} (f t xs is : List A) (x y : A) (k n : ℕ) → n ≡ suc k → is ≡ take n xs → xs ≡ f ++ (x ∷ t) →
+    length f ≡ k → y ≡ slice_index_or is k y → (is ≡ f ++ (x ∷ [])) × (y ≡ x)
 up_to_last f t xs is x y k n g e w c h =
     let i : is ≡ f ++ (x ∷ []) = e ∙ front_more f t xs x k n g w c in
     (i, h ∙ (parted_by f x [] is k i c).1 y)
@@ -104,17 +106,26 @@ pub cut_table : {S : Type 0} {m0 m1 m2 : IndexMap ℕ Place S} (a is : List (Ite
     → IsTable m0 (all_places a o) → IsTable m2 (items_places 0 is)
 cut_table a is o s1 s2 h = s2 [] (s1 (length a) (items_places 0 a) h)
 
-pub cut_closed : {S : Type 0} {m : IndexMap ℕ Place S} (is : List (Item ℕ Closing)) → IsTable m (items_places 0 is) → IsTable m (all_places is closed)
+pub cut_closed : {S : Type 0} {m : IndexMap ℕ Place S} (is : List (Item ℕ Closing)) → IsTable m (items_places 0 is) →
+    IsTable m (all_places is closed)
 cut_closed {m = m} is h = subst (λ y. IsTable m y) (sym (append-nil (items_places 0 is))) h
 
 -- then the last item loses its closer and what is behind the place
-pub cut_open : {S : Type 0} {m n u : IndexMap ℕ Place S} (is ps : List (Item ℕ Closing)) (s : Item ℕ Closing) (l : ℕ) (b : List ℕ) (e f : End ℕ) → is ≡ ps ++ (s ∷ []) → l ≡ first_of s → b ≡ inside_of s → e ≡ proof l b
-    → ((k : ℕ) (x y : List (ℕ × Place)) → IsTable m (x ++ (item_places k s ++ y)) → IsTable n (x ++ (((first_of s, record { item = k; part = First }) ∷ inner_places k 1 (inside_of s)) ++ y)))
+pub cut_open : {S : Type 0} {m n u : IndexMap ℕ Place S} (is ps : List (Item ℕ Closing)) (s : Item ℕ Closing) (l : ℕ)
+    (b : List ℕ) (e f : End ℕ) → is ≡ ps ++ (s ∷ []) → l ≡ first_of s → b ≡ inside_of s → e ≡ proof l b
+    → ((k : ℕ) (x y : List (ℕ × Place)) → IsTable m (x ++ (item_places k s ++ y)) →
+    IsTable n (x ++ (((first_of s, record { item = k; part = First }) ∷ inner_places k 1 (inside_of s)) ++ y)))
     → ((k : ℕ) (x : List (ℕ × Place)) → IsTable n (x ++ end_places k e) → IsTable u (x ++ end_places k f))
     → IsTable m (items_places 0 is) → IsTable u (all_places ps f)
 cut_open {m = m} {n = n} is ps s l b e f i p q r s1 s2 h =
-    let g : items_places 0 is ≡ items_places 0 ps ++ (item_places (length ps) s ++ []) = ap (items_places 0) i ∙ items_join 0 (length ps) ps (s ∷ []) (omega arith) in
-    let t1 : IsTable n (items_places 0 ps ++ (((first_of s, record { item = length ps; part = First }) ∷ inner_places (length ps) 1 (inside_of s)) ++ [])) = s1 (length ps) (items_places 0 ps) [] (subst (λ y. IsTable m y) g h) in
-    let w : items_places 0 ps ++ (((first_of s, record { item = length ps; part = First }) ∷ inner_places (length ps) 1 (inside_of s)) ++ []) ≡ items_places 0 ps ++ end_places (length ps) e =
-    ap (λ y. items_places 0 ps ++ y) (append-nil ((first_of s, record { item = length ps; part = First }) ∷ inner_places (length ps) 1 (inside_of s))) ∙ ap (λ y. items_places 0 ps ++ end_places (length ps) y) (sym (r ∙ (ap (λ y. proof y b) p ∙ ap (proof (first_of s)) q))) in
+    let g : items_places 0 is ≡ items_places 0 ps ++ (item_places (length ps) s ++ []) = ap (items_places 0) i ∙
+    items_join 0 (length ps) ps (s ∷ []) (omega arith) in
+    let t1 : IsTable n (items_places 0 ps
+    ++ (((first_of s, record { item = length ps; part = First }) ∷ inner_places (length ps) 1 (inside_of s)) ++ [])) =
+    s1 (length ps) (items_places 0 ps) [] (subst (λ y. IsTable m y) g h) in
+    let w : items_places 0 ps ++ (((first_of s, record { item = length ps; part = First }) ∷ inner_places (length ps) 1
+    (inside_of s)) ++ []) ≡ items_places 0 ps ++ end_places (length ps) e =
+    ap (λ y. items_places 0 ps ++ y) (append-nil ((first_of s, record { item = length ps; part = First })
+    ∷ inner_places (length ps) 1 (inside_of s))) ∙ ap (λ y. items_places 0 ps ++ end_places (length ps) y)
+    (sym (r ∙ (ap (λ y. proof y b) p ∙ ap (proof (first_of s)) q))) in
     s2 (length ps) (items_places 0 ps) (subst (λ y. IsTable n y) w t1)

@@ -1,5 +1,30 @@
 -- The last of a list.
-use Rattle.std.proofs.Common.{◌≡◌, ℕ, zero, suc, ◌+◌, ◌-◌, ◌<◌, ◌≤◌, List, [], ◌∷◌, ◌++◌, length, take, min, get_or, refl, sym, ap, ◌∙◌, arith, length-append, append-nil, slice_index_or}
+use Rattle.std.proofs.Common.{
+  ◌≡◌,
+  ℕ,
+  zero,
+  suc,
+  ◌+◌,
+  ◌-◌,
+  ◌<◌,
+  ◌≤◌,
+  List,
+  [],
+  ◌∷◌,
+  ◌++◌,
+  length,
+  take,
+  min,
+  get_or,
+  refl,
+  sym,
+  ap,
+  ◌∙◌,
+  arith,
+  length-append,
+  append-nil,
+  slice_index_or,
+}
 use Rattle.line_theory.specs.Lists.{last_or}
 use Rattle.line_theory.specs.Shapes.{Item}
 use Rattle.line_theory.specs.Lines.{Closing, item_ids, items_ids}
@@ -25,13 +50,16 @@ last_none n [] h = refl
 last_none n (x ∷ b) h = absurd (omega arith)
 
 -- the last id of some items is that of the last
-pub last_items : (n : ℕ) (xs : List (Item ℕ Closing)) → 0 < length xs → (x : Item ℕ Closing) → x ≡ slice_index_or xs (length xs - 1) x → (r : ℕ) → ((m : ℕ) → r ≡ last_or m (item_ids x)) → r ≡ last_or n (items_ids xs)
+pub last_items : (n : ℕ) (xs : List (Item ℕ Closing)) → 0 < length xs → (x : Item ℕ Closing) →
+    x ≡ slice_index_or xs (length xs - 1) x → (r : ℕ) → ((m : ℕ) → r ≡ last_or m (item_ids x)) → r ≡ last_or n (items_ids xs)
 last_items n xs h x e r f =
     let p = parted xs (length xs - 1) (omega arith) in
     let none : p.rest ≡ [] = empty p.rest (omega (arith, simp length-append at (ap length p.whole), p.count)) in
     let xe : x ≡ p.item = e ∙ p.at x in
     let whole : xs ≡ p.front ++ (x ∷ []) = p.whole ∙ cc (none, xe) in
-    f (last_or n (items_ids p.front)) ∙ sym (ap (λ y. last_or n (items_ids y)) whole ∙ (ap (λ y. last_or n y) (items_join p.front (x ∷ []) ∙ ap (λ y. items_ids p.front ++ y) (append-nil (item_ids x))) ∙ last_join n (items_ids p.front) (item_ids x)))
+    f (last_or n (items_ids p.front)) ∙ sym (ap (λ y. last_or n (items_ids y)) whole ∙
+    (ap (λ y. last_or n y) (items_join p.front (x ∷ []) ∙ ap (λ y. items_ids p.front ++ y) (append-nil (item_ids x))) ∙
+    last_join n (items_ids p.front) (item_ids x)))
   where
     empty : {A : Type 0} (ys : List A) → length ys ≡ 0 → ys ≡ []
     empty [] h = refl
@@ -54,7 +82,8 @@ last_closer f b None x e n = absurd (cc)
 last_closer f b (Some y) x e n = let h : y ≡ x = cc in sym (last_push f y.id b ∙ ap (λ z. z.id) h)
 
 -- the last inside of a block
-pub last_inside : (f d k : ℕ) (b : List ℕ) (o : Option Closer) → IsBlock (item_of f b o) → k + 1 ≡ length b → get_or b k d ≡ last_or (first_of (item_of f b o)) (inside_of (item_of f b o))
+pub last_inside : (f d k : ℕ) (b : List ℕ) (o : Option Closer) → IsBlock (item_of f b o) → k + 1 ≡ length b →
+    get_or b k d ≡ last_or (first_of (item_of f b o)) (inside_of (item_of f b o))
 last_inside f d k b None h e = absurd h
 last_inside f d k b (Some y) h e = last_at f d k b e
 
@@ -69,7 +98,8 @@ before_number n d k b h g = let e : suc (k - 1) ≡ k = omega arith in at_taken 
 take_min : (j : ℕ) (b : List ℕ) → take (min j (length b)) b ≡ take j b
 take_min zero b = let e : min 0 (length b) ≡ 0 = omega arith in ap (λ z. take z b) e
 take_min (suc j) [] = let e : min (suc j) 0 ≡ 0 = omega arith in ap (λ z. take {A = ℕ} z []) e
-take_min (suc j) (x ∷ b) = let e : min (suc j) (suc (length b)) ≡ suc (min j (length b)) = omega arith in ap (λ z. take z (x ∷ b)) e ∙ ap (λ z. x ∷ z) (take_min j b)
+take_min (suc j) (x ∷ b) = let e : min (suc j) (suc (length b)) ≡ suc (min j (length b)) = omega arith in
+    ap (λ z. take z (x ∷ b)) e ∙ ap (λ z. x ∷ z) (take_min j b)
 
 take_whole : (b : List ℕ) → take (length b) b ≡ b
 take_whole [] = refl

@@ -9,7 +9,8 @@ use Rattle.vcs_graph.specs.Blocks.{block_in}
 -- a new id, and no block is open at the cursor; or an id of the opaque block with this lemma and this closer, where no other zone is open
 abbrev pub Branches : ℕ → Branch → Line → Type 0
 Branches i (Proof p) d = (p ≡ i) × ((2 ≤ i) × ((has i (ids d) ≡ false) × AtEnd d.focus))
-Branches i (Zone s t) d = (has i (ids d) ≡ true) × (Opens i d × (block_in i (refolded d) ≡ Some (record { start = s; stop = Some t; opaque = true })))
+Branches i (Zone s t) d = (has i (ids d) ≡ true) ×
+    (Opens i d × (block_in i (refolded d) ≡ Some (record { start = s; stop = Some t; opaque = true })))
 
 abbrev pub branched : ℕ → Branch → Line → Line
 branched i (Proof p) d = begun i d

@@ -1,7 +1,7 @@
 -- An id that goes, with what has to go with it.
-use Rattle.std.specs.Prelude.{◌≡◌, ℕ, List, true}
-use Rattle.line_theory.specs.Shapes.{Item, closed, proof, Focus, last, zone}
-use Rattle.line_theory.specs.Lines.{Closing, Line, Spot, at_lone, at_lemma, at_inner, at_closer, missing}
+use Rattle.std.specs.Prelude.{◌≡◌, ℕ, true}
+use Rattle.line_theory.specs.Shapes.{closed, proof, Focus, last, zone}
+use Rattle.line_theory.specs.Lines.{Closing, Line, at_lone, at_lemma, at_inner, at_closer, missing}
 use Rattle.line_theory.specs.Edits.{Seat, among, open_lemma, open_inner, behind, nowhere, seat, line_of}
 
 -- ---- the id and all behind it

@@ -23,7 +23,8 @@ inner_places k j (i ∷ b) = (i, record { item = k; part = Inside j }) ∷ inner
 
 abbrev pub item_places : ℕ → Item ℕ Closing → List (ℕ × Place)
 item_places k (lone i) = (i, record { item = k; part = First }) ∷ []
-item_places k (block l b c) = (l, record { item = k; part = First }) ∷ (inner_places k 1 b ++ ((c.id, record { item = k; part = Closer }) ∷ []))
+item_places k (block l b c) = (l, record { item = k; part = First })
+    ∷ (inner_places k 1 b ++ ((c.id, record { item = k; part = Closer }) ∷ []))
 
 abbrev pub items_places : ℕ → List (Item ℕ Closing) → List (ℕ × Place)
 items_places k [] = []

@@ -19,9 +19,12 @@ pub(crate) fn cut_behind(
     place: Place,
 )
     requires item { place.item < length items.old.items }
-    ensures items { (f t : List (Item ℕ Closing)) (x : Item ℕ Closing) → items.old.items ≡ f ++ (x ∷ t) → length f ≡ place.item → items.new.items ≡ cut_items place.part f x }
-    ensures end { (f t : List (Item ℕ Closing)) (x : Item ℕ Closing) → items.old.items ≡ f ++ (x ∷ t) → length f ≡ place.item → ending.new ≡ cut_end place.part x }
-    ensures table { IsTable places.old (all_places items.old.items ending.old) → IsTable places.new (all_places items.new.items ending.new) }
+    ensures items { (f t : List (Item ℕ Closing)) (x : Item ℕ Closing) → items.old.items ≡ f ++ (x ∷ t) → length f ≡ place.item
+        → items.new.items ≡ cut_items place.part f x }
+    ensures end { (f t : List (Item ℕ Closing)) (x : Item ℕ Closing) → items.old.items ≡ f ++ (x ∷ t) → length f ≡ place.item →
+        ending.new ≡ cut_end place.part x }
+    ensures table { IsTable places.old (all_places items.old.items ending.old) →
+        IsTable places.new (all_places items.new.items ending.new) }
 {
     ending.clear(places);
     forget_items(places, items, place.item + 1);
@@ -38,9 +41,12 @@ pub(crate) fn cut_from(
     place: Place,
 )
     requires item { place.item < length items.old.items }
-    ensures items { (f t : List (Item ℕ Closing)) (x : Item ℕ Closing) → items.old.items ≡ f ++ (x ∷ t) → length f ≡ place.item → items.new.items ≡ f }
-    ensures end { (f t : List (Item ℕ Closing)) (x : Item ℕ Closing) → items.old.items ≡ f ++ (x ∷ t) → length f ≡ place.item → ending.new ≡ left_end place.part x }
-    ensures table { IsTable places.old (all_places items.old.items ending.old) → IsTable places.new (all_places items.new.items ending.new) }
+    ensures items { (f t : List (Item ℕ Closing)) (x : Item ℕ Closing) → items.old.items ≡ f ++ (x ∷ t) → length f ≡ place.item
+        → items.new.items ≡ f }
+    ensures end { (f t : List (Item ℕ Closing)) (x : Item ℕ Closing) → items.old.items ≡ f ++ (x ∷ t) → length f ≡ place.item →
+        ending.new ≡ left_end place.part x }
+    ensures table { IsTable places.old (all_places items.old.items ending.old) →
+        IsTable places.new (all_places items.new.items ending.new) }
 {
     ending.clear(places);
     if items[place.item].opens_from(place.part) {
@@ -54,9 +60,12 @@ pub(crate) fn cut_from(
 
 /// The last item, a block, loses its closer and what stands inside of it behind so many; the rest is open at the end.
 fn reopen_last(items: &mut Vec<Segment>, ending: &mut Ending, places: &mut Places, keep: usize)
-    ensures items { (f : List (Item ℕ Closing)) (l : ℕ) (b : List ℕ) (c : Closing) → items.old.items ≡ f ++ (block l b c ∷ []) → items.new.items ≡ f }
-    ensures end { (f : List (Item ℕ Closing)) (l : ℕ) (b : List ℕ) (c : Closing) → items.old.items ≡ f ++ (block l b c ∷ []) → ending.new ≡ proof l (take keep b) }
-    ensures table { (f : List (Item ℕ Closing)) (l : ℕ) (b : List ℕ) (c : Closing) → items.old.items ≡ f ++ (block l b c ∷ []) → IsTable places.old (items_places 0 items.old.items) → IsTable places.new (all_places items.new.items ending.new) }
+    ensures items { (f : List (Item ℕ Closing)) (l : ℕ) (b : List ℕ) (c : Closing) → items.old.items ≡ f ++ (block l b c ∷ []) →
+        items.new.items ≡ f }
+    ensures end { (f : List (Item ℕ Closing)) (l : ℕ) (b : List ℕ) (c : Closing) → items.old.items ≡ f ++ (block l b c ∷ []) →
+        ending.new ≡ proof l (take keep b) }
+    ensures table { (f : List (Item ℕ Closing)) (l : ℕ) (b : List ℕ) (c : Closing) → items.old.items ≡ f ++ (block l b c ∷ []) →
+        IsTable places.old (items_places 0 items.old.items) → IsTable places.new (all_places items.new.items ending.new) }
 {
     if let Some(segment) = items.pop() {
         let (lemma, inside) = segment.unclose(places);

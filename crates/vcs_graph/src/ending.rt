@@ -1,5 +1,25 @@
 //! What stands behind the last item.
-ghost use Rattle.std.specs.Prelude.{◌≡◌, ℕ, suc, ◌-◌, ◌<◌, ◌≤◌, ◌+◌, List, [], ◌∷◌, ◌++◌, take, length, slice_index, Some, None, IfOk, OnOk, OnErr};
+ghost use Rattle.std.specs.Prelude.{
+  ◌≡◌,
+  ℕ,
+  suc,
+  ◌-◌,
+  ◌<◌,
+  ◌≤◌,
+  ◌+◌,
+  List,
+  [],
+  ◌∷◌,
+  ◌++◌,
+  take,
+  length,
+  slice_index,
+  Some,
+  None,
+  IfOk,
+  OnOk,
+  OnErr,
+};
 ghost use Rattle.line_theory.specs.Lists.{last_or};
 ghost use Rattle.line_theory.specs.Lines.{end_ids};
 ghost use Rattle.line_theory.specs.Shapes.{closed, proof};
@@ -100,7 +120,8 @@ impl Ending {
         requires { IsOpen self.old }
         ensures ok { OnOk result (self.new ≡ with_body (body_of self.old ++ id ∷ []) self.old) }
         ensures err { OnErr result (self.new ≡ self.old) }
-        ensures placed { OnOk result ((a b : List (ℕ × Place)) → look id (a ++ b) ≡ None → IsTable places.old (a ++ b) → IsTable places.new (a ++ ((id, record { item = item; part = Inside (suc (length (body_of self.old))) }) ∷ b))) }
+        ensures placed { OnOk result ((a b : List (ℕ × Place)) → look id (a ++ b) ≡ None → IsTable places.old (a ++ b) →
+            IsTable places.new (a ++ ((id, record { item = item; part = Inside (suc (length (body_of self.old))) }) ∷ b))) }
         ensures kept { OnErr result ((es : List (ℕ × Place)) → IsTable places.old es → IsTable places.new es) }
     {
         let part = Part::Inside(self.inside.len() + 1);
@@ -157,7 +178,8 @@ impl Ending {
     pub fn cut_from(&mut self, places: &mut Places, part: Part)
         requires { IsOpen self.old }
         ensures left { self.new ≡ end_left part self.old }
-        ensures table { (k : ℕ) (x : List (ℕ × Place)) → IsTable places.old (x ++ end_places k self.old) → IsTable places.new (x ++ end_places k self.new) }
+        ensures table { (k : ℕ) (x : List (ℕ × Place)) → IsTable places.old (x ++ end_places k self.old) →
+            IsTable places.new (x ++ end_places k self.new) }
     {
         match part {
             Part::First => self.clear(places),
@@ -182,7 +204,8 @@ impl Ending {
     pub fn shorten(&mut self, places: &mut Places, keep: usize)
         requires { IsOpen self.old }
         ensures short { self.new ≡ with_body (take keep (body_of self.old)) self.old }
-        ensures table { (k : ℕ) (x : List (ℕ × Place)) → IsTable places.old (x ++ end_places k self.old) → IsTable places.new (x ++ end_places k self.new) }
+        ensures table { (k : ℕ) (x : List (ℕ × Place)) → IsTable places.old (x ++ end_places k self.old) →
+            IsTable places.new (x ++ end_places k self.new) }
     {
         forget_inside(places, &mut self.inside, keep);
     }

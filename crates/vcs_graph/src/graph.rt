@@ -1,7 +1,49 @@
 //! The graph.
-ghost use Rattle.std.specs.Prelude.{◌≡◌, ℕ, ◌+◌, ◌^◌, ◌≤◌, ◌<◌, [], ◌∷◌, ◌++◌, drop, length, true, false, IsTrue, ◌↔◌, Some, None, IsOk, IfOk, OnOk, OnErr};
+ghost use Rattle.std.specs.Prelude.{
+  ◌≡◌,
+  ℕ,
+  ◌+◌,
+  ◌^◌,
+  ◌≤◌,
+  ◌<◌,
+  [],
+  ◌∷◌,
+  ◌++◌,
+  drop,
+  length,
+  true,
+  false,
+  IsTrue,
+  ◌↔◌,
+  Some,
+  None,
+  IsOk,
+  IfOk,
+  OnOk,
+  OnErr,
+};
 ghost use Rattle.line_theory.specs.Lists.{has, last_or};
-ghost use Rattle.line_theory.specs.Lines.{empty, ids, front, before, cursor, tip, committed, begun, merged, refolded, AtEnd, InProof, InZone, zone_in, items_ids, Opens, zoned, Drops, dropped};
+ghost use Rattle.line_theory.specs.Lines.{
+  empty,
+  ids,
+  front,
+  before,
+  cursor,
+  tip,
+  committed,
+  begun,
+  merged,
+  refolded,
+  AtEnd,
+  InProof,
+  InZone,
+  zone_in,
+  items_ids,
+  Opens,
+  zoned,
+  Drops,
+  dropped,
+};
 ghost use Rattle.line_theory.specs.Edits.{seat, lost};
 ghost use Rattle.vcs_graph.specs.Blocks.{block_in, open_in};
 ghost use Rattle.vcs_graph.specs.Branches.{Branches, branched, IsZone};

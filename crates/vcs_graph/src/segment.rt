@@ -1,12 +1,48 @@
 //! One item of the line.
-ghost use Rattle.std.specs.Prelude.{◌≡◌, ℕ, suc, ◌<◌, ◌≤◌, ◌-◌, ◌^◌, List, [], ◌∷◌, ◌++◌, ◌+◌, take, drop, length, slice_index, Some, None, IfOk, OnOk, OnErr};
+ghost use Rattle.std.specs.Prelude.{
+  ◌≡◌,
+  ℕ,
+  suc,
+  ◌<◌,
+  ◌≤◌,
+  ◌-◌,
+  ◌^◌,
+  List,
+  [],
+  ◌∷◌,
+  ◌++◌,
+  ◌+◌,
+  take,
+  drop,
+  length,
+  slice_index,
+  Some,
+  None,
+  IfOk,
+  OnOk,
+  OnErr,
+};
 ghost use Rattle.line_theory.specs.Lists.{last_or};
 ghost use Rattle.line_theory.specs.Lines.{item_ids};
 ghost use Rattle.line_theory.specs.Shapes.{lone, block};
 ghost use Rattle.vcs_graph.specs.declared.place.Place.{Place};
 ghost use Rattle.vcs_graph.specs.declared.place.Part.TheVariants.{First, Inside};
 ghost use Rattle.vcs_graph.specs.Table.{IsTable, look, item_places, inner_places};
-ghost use Rattle.vcs_graph.specs.Parts.{part_front, block_front, inside_of, first_of, closer_of, IsBlock, with_inside, ended, part_rest, stop_of, opens_behind, opens_from, kept_before};
+ghost use Rattle.vcs_graph.specs.Parts.{
+  part_front,
+  block_front,
+  inside_of,
+  first_of,
+  closer_of,
+  IsBlock,
+  with_inside,
+  ended,
+  part_rest,
+  stop_of,
+  opens_behind,
+  opens_from,
+  kept_before,
+};
 ghost use Rattle.vcs_graph.specs.Sites.{part_site, open_part_site};
 
 use crate::forget::forget_inside;
@@ -136,7 +172,8 @@ impl Segment {
         requires { IsBlock self.old }
         ensures ok { OnOk result (self.new ≡ with_inside (inside_of self.old ++ id ∷ []) self.old) }
         ensures err { OnErr result (self.new ≡ self.old) }
-        ensures placed { OnOk result ((a b : List (ℕ × Place)) → look id (a ++ b) ≡ None → IsTable places.old (a ++ b) → IsTable places.new (a ++ ((id, record { item = item; part = Inside (suc (length (inside_of self.old))) }) ∷ b))) }
+        ensures placed { OnOk result ((a b : List (ℕ × Place)) → look id (a ++ b) ≡ None → IsTable places.old (a ++ b) →
+            IsTable places.new (a ++ ((id, record { item = item; part = Inside (suc (length (inside_of self.old))) }) ∷ b))) }
         ensures kept { OnErr result ((es : List (ℕ × Place)) → IsTable places.old es → IsTable places.new es) }
     {
         let part = Part::Inside(self.inside.len() + 1);
@@ -160,7 +197,8 @@ impl Segment {
     pub fn shorten(&mut self, places: &mut Places, keep: usize)
         requires { IsBlock self.old }
         ensures short { self.new ≡ with_inside (take keep (inside_of self.old)) self.old }
-        ensures table { (k : ℕ) (x y : List (ℕ × Place)) → IsTable places.old (x ++ (item_places k self.old ++ y)) → IsTable places.new (x ++ (item_places k self.new ++ y)) }
+        ensures table { (k : ℕ) (x y : List (ℕ × Place)) → IsTable places.old (x ++ (item_places k self.old ++ y)) →
+            IsTable places.new (x ++ (item_places k self.new ++ y)) }
     {
         forget_inside(places, &mut self.inside, keep);
     }
@@ -280,7 +318,8 @@ impl Segment {
     pub fn unclose(self, places: &mut Places) -> (u64, Vec<u64>)
         ensures lemma { result.0 ≡ first_of self }
         ensures inside { IsBlock self → result.1.items ≡ inside_of self }
-        ensures table { IsBlock self → (k : ℕ) (x y : List (ℕ × Place)) → IsTable places.old (x ++ (item_places k self ++ y)) → IsTable places.new (x ++ (((first_of self, record { item = k; part = First }) ∷ inner_places k 1 (inside_of self)) ++ y)) }
+        ensures table { IsBlock self → (k : ℕ) (x y : List (ℕ × Place)) → IsTable places.old (x ++ (item_places k self ++ y)) →
+            IsTable places.new (x ++ (((first_of self, record { item = k; part = First }) ∷ inner_places k 1 (inside_of self)) ++ y)) }
     {
         match self.closer {
             Some(closer) => {
