@@ -35,7 +35,8 @@ lift_raise_at from by (suc i) = go (side i from)
   where
     go : (i < from) ⊎ (from ≤ i) → replace_term next (raise from by i) ≡ raise (from + 1) by (suc i)
     go (inl h) = ap (replace_term next) (raise_small from by i h) ∙ sym (raise_small (from + 1) by (suc i) (omega arith))
-    go (inr h) = ap (replace_term next) (raise_large from by i h) ∙ ap var (omega arith) ∙ sym (raise_large (from + 1) by (suc i) (omega arith))
+    go (inr h) =
+        ap (replace_term next) (raise_large from by i h) ∙ ap var (omega arith) ∙ sym (raise_large (from + 1) by (suc i) (omega arith))
 
 pub lift_raise : (from by : ℕ) → lift (raise from by) ≡ raise (from + 1) by
 lift_raise from by = fun_ext (lift_raise_at from by)
@@ -47,7 +48,9 @@ lift_put_at k v (suc i) = go (sides i k)
     go : (i < k) ⊎ ((i ≡ k) ⊎ (k < i)) → replace_term next (put k v i) ≡ put (k + 1) (replace_term next v) (suc i)
     go (inl h) = ap (replace_term next) (put_small k v i h) ∙ sym (put_small (k + 1) (replace_term next v) (suc i) (omega arith))
     go (inr (inl h)) = ap (replace_term next) (put_here k v i h) ∙ sym (put_here (k + 1) (replace_term next v) (suc i) (omega arith))
-    go (inr (inr h)) = ap (replace_term next) (put_large k v i h) ∙ ap var (omega arith) ∙ sym (put_large (k + 1) (replace_term next v) (suc i) (omega arith))
+    go (inr (inr h)) =
+        ap (replace_term next) (put_large k v i h) ∙ ap var (omega arith)
+        ∙ sym (put_large (k + 1) (replace_term next v) (suc i) (omega arith))
 
 next_raise_at : (i : ℕ) → next i ≡ raise 0 1 i
 next_raise_at i = ap var (omega arith) ∙ sym (raise_large 0 1 i (omega arith))
@@ -72,10 +75,12 @@ shift_all from by s x a = ap (λ ρ. all s x (replace ρ a)) (lift_raise from by
 pub shift_ex : (from by : ℕ) (s x : List ℕ) (a : Formula) → shift from by (ex s x a) ≡ ex s x (shift (from + 1) by a)
 shift_ex from by s x a = ap (λ ρ. ex s x (replace ρ a)) (lift_raise from by)
 
-pub substitute_all : (k : ℕ) (v : Term) (s x : List ℕ) (a : Formula) → substitute k v (all s x a) ≡ all s x (substitute (k + 1) (shift_term 0 1 v) a)
+pub substitute_all : (k : ℕ) (v : Term) (s x : List ℕ) (a : Formula)
+    → substitute k v (all s x a) ≡ all s x (substitute (k + 1) (shift_term 0 1 v) a)
 substitute_all k v s x a = ap (λ ρ. all s x (replace ρ a)) (lift_put k v)
 
-pub substitute_ex : (k : ℕ) (v : Term) (s x : List ℕ) (a : Formula) → substitute k v (ex s x a) ≡ ex s x (substitute (k + 1) (shift_term 0 1 v) a)
+pub substitute_ex : (k : ℕ) (v : Term) (s x : List ℕ) (a : Formula)
+    → substitute k v (ex s x a) ≡ ex s x (substitute (k + 1) (shift_term 0 1 v) a)
 substitute_ex k v s x a = ap (λ ρ. ex s x (replace ρ a)) (lift_put k v)
 
 -- ---- under several binders
@@ -98,4 +103,6 @@ pub shift_once_more : (by : ℕ) (t : Term) → shift_term 0 1 (shift_term 0 by 
 shift_once_more by t = term_twice (raise 0 1) (raise 0 by) t ∙ ap (λ ρ. replace_term ρ t) (fun_ext (raise_once_more_at by))
 
 pub under_shift : (by : ℕ) (a : Formula) → under (shift 0 by a) ≡ shift 0 (by + 1) a
-under_shift by a = ap (λ ρ. replace ρ (shift 0 by a)) next_raise ∙ replace_twice (raise 0 1) (raise 0 by) a ∙ ap (λ ρ. replace ρ a) (fun_ext (raise_once_more_at by))
+under_shift by a =
+    ap (λ ρ. replace ρ (shift 0 by a)) next_raise ∙ replace_twice (raise 0 1) (raise 0 by) a
+    ∙ ap (λ ρ. replace ρ a) (fun_ext (raise_once_more_at by))

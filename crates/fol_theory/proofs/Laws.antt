@@ -1,7 +1,8 @@
 -- The laws of simultaneous substitution.
 use Rattle.std.proofs.Common.{◌≡◌, ℕ, zero, suc, List, [], ◌∷◌, map, refl, sym, ap, ◌∙◌}
 use Rattle.std.proofs.Math.Path.{fun_ext}
-use Rattle.fol_theory.specs.Syntax.{Term, var, app, Terms, nil, cons, Formula, truth, falsity, pred, equal, both, either, implies, all, ex, terms}
+use Rattle.fol_theory.specs.Syntax.{Term, var, app, Terms, nil, cons, Formula, truth, falsity, pred, equal, both, either, implies, all, ex}
+use Rattle.fol_theory.specs.Syntax.{terms}
 use Rattle.fol_theory.specs.Substitution.{replace_term, replace_terms, replace, next, lift, first, under, instantiate}
 
 -- ---- one substitution after another
@@ -35,10 +36,12 @@ replace_twice τ σ (all s x a) = ap (all s x) (replace_twice (lift τ) (lift σ
 replace_twice τ σ (ex s x a) = ap (ex s x) (replace_twice (lift τ) (lift σ) a ∙ ap (λ ρ. replace ρ a) (lift_twice τ σ))
 
 -- two pairs of substitutions that agree at each variable agree
-pub by_points : (τ σ τ' σ' : ℕ → Term) → ((i : ℕ) → replace_term τ (σ i) ≡ replace_term τ' (σ' i)) → (a : Formula) → replace τ (replace σ a) ≡ replace τ' (replace σ' a)
+pub by_points : (τ σ τ' σ' : ℕ → Term) → ((i : ℕ) → replace_term τ (σ i) ≡ replace_term τ' (σ' i)) → (a : Formula)
+    → replace τ (replace σ a) ≡ replace τ' (replace σ' a)
 by_points τ σ τ' σ' h a = replace_twice τ σ a ∙ ap (λ ρ. replace ρ a) (fun_ext h) ∙ sym (replace_twice τ' σ' a)
 
-pub term_by_points : (τ σ τ' σ' : ℕ → Term) → ((i : ℕ) → replace_term τ (σ i) ≡ replace_term τ' (σ' i)) → (t : Term) → replace_term τ (replace_term σ t) ≡ replace_term τ' (replace_term σ' t)
+pub term_by_points : (τ σ τ' σ' : ℕ → Term) → ((i : ℕ) → replace_term τ (σ i) ≡ replace_term τ' (σ' i)) → (t : Term)
+    → replace_term τ (replace_term σ t) ≡ replace_term τ' (replace_term σ' t)
 term_by_points τ σ τ' σ' h t = term_twice τ σ t ∙ ap (λ ρ. replace_term ρ t) (fun_ext h) ∙ sym (term_twice τ' σ' t)
 
 -- ---- the identity
@@ -86,7 +89,8 @@ instantiate_at : (σ : ℕ → Term) (t : Term) (i : ℕ) → replace_term σ (f
 instantiate_at σ t zero = refl
 instantiate_at σ t (suc i) = sym (term_twice (first (replace_term σ t)) next (σ i) ∙ term_identity (σ i))
 
-pub replace_instantiate : (σ : ℕ → Term) (a : Formula) (t : Term) → replace σ (instantiate a t) ≡ instantiate (replace (lift σ) a) (replace_term σ t)
+pub replace_instantiate : (σ : ℕ → Term) (a : Formula) (t : Term)
+    → replace σ (instantiate a t) ≡ instantiate (replace (lift σ) a) (replace_term σ t)
 replace_instantiate σ a t = by_points σ (first t) (first (replace_term σ t)) (lift σ) (instantiate_at σ t) a
 
 pub instantiate_under : (a : Formula) (t : Term) → instantiate (under a) t ≡ a

@@ -7,3 +7,5 @@ pub mod Names
 pub mod Entries
 pub mod Gaps
 pub mod Numbers
+pub mod Untouched
+pub mod Slots

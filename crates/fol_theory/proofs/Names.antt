@@ -1,7 +1,7 @@
 -- What printing names don't change.
 use Rattle.std.proofs.Common.{◌≡◌, ℕ, ◌+◌, max, [], refl, sym, ap, ◌∙◌}
 use Rattle.fol_theory.specs.Syntax.{Term, Formula, truth, falsity, pred, equal, both, either, implies, all, ex}
-use Rattle.fol_theory.specs.Substitution.{replace, lift, raise, put, shift, substitute}
+use Rattle.fol_theory.specs.Substitution.{replace, lift}
 use Rattle.fol_theory.specs.Measures.{nodes, height, reach, depth}
 use Rattle.fol_theory.specs.Printing.{unnamed, Alike}
 
@@ -18,12 +18,6 @@ unnamed_replace σ (ex s x a) = ap (ex s []) (unnamed_replace (lift σ) a)
 
 pub alike_replace : (σ : ℕ → Term) (a b : Formula) → Alike a b → Alike (replace σ a) (replace σ b)
 alike_replace σ a b h = unnamed_replace σ a ∙ ap (replace σ) h ∙ sym (unnamed_replace σ b)
-
-pub alike_shift : (from by : ℕ) (a b : Formula) → Alike a b → Alike (shift from by a) (shift from by b)
-alike_shift from by a b h = alike_replace (raise from by) a b h
-
-pub alike_substitute : (k : ℕ) (v : Term) (a b : Formula) → Alike a b → Alike (substitute k v a) (substitute k v b)
-alike_substitute k v a b h = alike_replace (put k v) a b h
 
 pub unnamed_twice : (a : Formula) → unnamed (unnamed a) ≡ unnamed a
 unnamed_twice truth = refl

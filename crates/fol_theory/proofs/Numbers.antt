@@ -1,5 +1,6 @@
 -- The numbers of hypotheses, and a hypothesis that is told by its place.
-use Rattle.std.proofs.Common.{◌≡◌, ℕ, ◌<◌, ◌≤◌, List, [], ◌∷◌, ◌++◌, length, refl, sym, ap, ◌∙◌, ◌⊎◌, inl, inr, true, false, if◌then◌else◌, ◌==◌, arith}
+use Rattle.std.proofs.Common.{◌≡◌, ℕ, ◌<◌, ◌≤◌, List, [], ◌∷◌, ◌++◌, length, refl, sym, ap, ◌∙◌, ◌⊎◌, inl, inr, true, false, if◌then◌else◌}
+use Rattle.std.proofs.Common.{◌==◌, arith}
 use Rattle.std.proofs.lemmas.Bool.Decides.{nat_tests}
 use Rattle.fol_theory.specs.Syntax.{Formula}
 use Rattle.fol_theory.specs.Substitution.{under, shift}
@@ -30,15 +31,21 @@ hypothesis_there [] i h = absurd (omega (arith, h))
 hypothesis_there (variable s ∷ c) i h = let r = hypothesis_there c i h in (under r.0, (r.0, r.1, refl))
 hypothesis_there (hypothesis b ∷ c) i h = go (side i (count c)) (hypothesis_there c i)
   where
-    go : (i < count c) ⊎ (count c ≤ i) → (i < count c → (a : Formula) × IsHypothesis c i a) → (a : Formula) × IsHypothesis (hypothesis b ∷ c) i a
+    go : (i < count c) ⊎ (count c ≤ i) → (i < count c → (a : Formula) × IsHypothesis c i a)
+        → (a : Formula) × IsHypothesis (hypothesis b ∷ c) i a
     go (inl k) more = let r = more k in (r.0, inr r.1)
     go (inr k) more = (b, inl (omega (arith, h, k), refl))
 
 -- ---- a hypothesis between newer and older entries
 
-pub hypothesis_placed : (newer older : List Entry) (a : Formula) → IsHypothesis (newer ++ hypothesis a ∷ older) (count older) (shift 0 (length (variables newer)) a)
+pub hypothesis_placed : (newer older : List Entry) (a : Formula)
+    → IsHypothesis (newer ++ hypothesis a ∷ older) (count older) (shift 0 (length (variables newer)) a)
 hypothesis_placed [] older a = inl (refl, shift_none 0 a)
-hypothesis_placed (variable s ∷ newer) older a = (shift 0 (length (variables newer)) a, hypothesis_placed newer older a, ap (λ n. shift 0 n a) (omega arith) ∙ sym (under_shift (length (variables newer)) a))
+hypothesis_placed (variable s ∷ newer) older a = (
+  shift 0 (length (variables newer)) a,
+  hypothesis_placed newer older a,
+  ap (λ n. shift 0 n a) (omega arith) ∙ sym (under_shift (length (variables newer)) a),
+)
 hypothesis_placed (hypothesis b ∷ newer) older a = inr (hypothesis_placed newer older a)
 
 test_same : (n : ℕ) → (n == n) ≡ true
@@ -56,5 +63,6 @@ pub without_placed : (newer older : List Entry) (a : Formula) → without (newer
 without_placed [] older a = ap (λ t. if t then older else hypothesis a ∷ without older (count older)) (test_same (count older))
 without_placed (variable s ∷ newer) older a = ap (λ c. variable s ∷ c) (without_placed newer older a)
 without_placed (hypothesis b ∷ newer) older a =
-    ap (λ t. if t then newer ++ hypothesis a ∷ older else hypothesis b ∷ without (newer ++ hypothesis a ∷ older) (count older)) (test_below (count older) (count (newer ++ hypothesis a ∷ older)) (count_placed newer older a))
+    ap (λ t. if t then newer ++ hypothesis a ∷ older else hypothesis b ∷ without (newer ++ hypothesis a ∷ older) (count older))
+    (test_below (count older) (count (newer ++ hypothesis a ∷ older)) (count_placed newer older a))
     ∙ ap (λ c. hypothesis b ∷ c) (without_placed newer older a)

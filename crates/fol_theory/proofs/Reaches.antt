@@ -43,7 +43,8 @@ mutual
   substitute_term_reach k v (var i) = put_reach k v i
   substitute_term_reach k v (app f ts) = substitute_terms_reach k v ts
 
-  pub substitute_terms_reach : (k : ℕ) (v : Term) (ts : Terms) → terms_reach (replace_terms (put k v) ts) ≤ max (terms_reach ts) (term_reach v)
+  pub substitute_terms_reach : (k : ℕ) (v : Term) (ts : Terms)
+      → terms_reach (replace_terms (put k v) ts) ≤ max (terms_reach ts) (term_reach v)
   substitute_terms_reach k v nil = omega arith
   substitute_terms_reach k v (cons t ts) = omega (arith, substitute_term_reach k v t, substitute_terms_reach k v ts)
 
@@ -55,8 +56,12 @@ substitute_reach k v (equal s t u) = omega (arith, substitute_term_reach k v t, 
 substitute_reach k v (both a b) = omega (arith, substitute_reach k v a, substitute_reach k v b)
 substitute_reach k v (either a b) = omega (arith, substitute_reach k v a, substitute_reach k v b)
 substitute_reach k v (implies a b) = omega (arith, substitute_reach k v a, substitute_reach k v b)
-substitute_reach k v (all s x a) = subst (λ z. reach z ≤ max (reach a) (term_reach v + (depth a + 1))) (sym (substitute_all k v s x a)) (omega (arith, substitute_reach (k + 1) (shift_term 0 1 v) a, shift_term_reach 0 1 v))
-substitute_reach k v (ex s x a) = subst (λ z. reach z ≤ max (reach a) (term_reach v + (depth a + 1))) (sym (substitute_ex k v s x a)) (omega (arith, substitute_reach (k + 1) (shift_term 0 1 v) a, shift_term_reach 0 1 v))
+substitute_reach k v (all s x a) =
+    subst (λ z. reach z ≤ max (reach a) (term_reach v + (depth a + 1))) (sym (substitute_all k v s x a))
+    (omega (arith, substitute_reach (k + 1) (shift_term 0 1 v) a, shift_term_reach 0 1 v))
+substitute_reach k v (ex s x a) =
+    subst (λ z. reach z ≤ max (reach a) (term_reach v + (depth a + 1))) (sym (substitute_ex k v s x a))
+    (omega (arith, substitute_reach (k + 1) (shift_term 0 1 v) a, shift_term_reach 0 1 v))
 
 -- ---- no index passes the limit, by height and greatest index
 
@@ -69,8 +74,10 @@ shift_fits limit from by a h = omega (arith, h, shift_reach from by a)
 pub shift_term_fits : (limit from by : ℕ) (t : Term) → term_reach t + by ≤ limit → term_reach (shift_term from by t) ≤ limit
 shift_term_fits limit from by t h = omega (arith, h, shift_term_reach from by t)
 
-pub substitute_fits : (limit k : ℕ) (v : Term) (a : Formula) → reach a ≤ limit → term_reach v + height a ≤ limit → reach (substitute k v a) ≤ limit
+pub substitute_fits : (limit k : ℕ) (v : Term) (a : Formula) → reach a ≤ limit → term_reach v + height a ≤ limit
+    → reach (substitute k v a) ≤ limit
 substitute_fits limit k v a h g = omega (arith, h, g, substitute_reach k v a, depth_below a)
 
-pub substitute_term_fits : (limit k : ℕ) (v t : Term) → term_reach t ≤ limit → term_reach v ≤ limit → term_reach (substitute_term k v t) ≤ limit
+pub substitute_term_fits : (limit k : ℕ) (v t : Term) → term_reach t ≤ limit → term_reach v ≤ limit
+    → term_reach (substitute_term k v t) ≤ limit
 substitute_term_fits limit k v t h g = omega (arith, h, g, substitute_term_reach k v t)

@@ -2,7 +2,8 @@
 use Rattle.std.proofs.Common.{◌≡◌, ℕ, zero, suc, ◌+◌, ◌*◌, ◌<◌, ◌≤◌, refl, sym, ap, ◌∙◌, subst, arith, ◌⊎◌, inl, inr}
 use Rattle.std.proofs.lemmas.Bool.Decides.{nat_tests}
 use Rattle.fol_theory.specs.Syntax.{Term, var, app, Terms, nil, cons, Formula, truth, falsity, pred, equal, both, either, implies, all, ex}
-use Rattle.fol_theory.specs.Substitution.{replace_term, replace_terms, replace, next, lift, raise, put, shift, shift_term, substitute, substitute_term}
+use Rattle.fol_theory.specs.Substitution.{replace_term, replace_terms, replace, next, lift, raise, put, shift, shift_term, substitute}
+use Rattle.fol_theory.specs.Substitution.{substitute_term}
 use Rattle.fol_theory.specs.Measures.{term_nodes, terms_nodes, nodes, term_height, terms_height, height, depth}
 use Rattle.fol_theory.proofs.AtIndex.{sides, put_small, put_here, put_large}
 
@@ -44,11 +45,13 @@ shift_nodes from by a = nodes_kept (raise from by) (raise_nodes from by) a
 -- ---- height: at most n more, where the terms put in have at most n + 1
 
 mutual
-  term_height_most : (n : ℕ) (σ : ℕ → Term) → ((i : ℕ) → term_height (σ i) ≤ n + 1) → (t : Term) → term_height (replace_term σ t) ≤ term_height t + n
+  term_height_most : (n : ℕ) (σ : ℕ → Term) → ((i : ℕ) → term_height (σ i) ≤ n + 1) → (t : Term)
+      → term_height (replace_term σ t) ≤ term_height t + n
   term_height_most n σ h (var i) = omega (arith, h i)
   term_height_most n σ h (app f ts) = omega (arith, terms_height_most n σ h ts)
 
-  terms_height_most : (n : ℕ) (σ : ℕ → Term) → ((i : ℕ) → term_height (σ i) ≤ n + 1) → (ts : Terms) → terms_height (replace_terms σ ts) ≤ terms_height ts + n
+  terms_height_most : (n : ℕ) (σ : ℕ → Term) → ((i : ℕ) → term_height (σ i) ≤ n + 1) → (ts : Terms)
+      → terms_height (replace_terms σ ts) ≤ terms_height ts + n
   terms_height_most n σ h nil = omega arith
   terms_height_most n σ h (cons t ts) = omega (arith, term_height_most n σ h t, terms_height_most n σ h ts)
 
@@ -101,7 +104,8 @@ raise_height : (from by i : ℕ) → term_height (raise from by i) ≤ 0 + 1
 raise_height from by i = grind (arith, nat_tests)
 
 pub shift_term_height : (from by : ℕ) (t : Term) → term_height (shift_term from by t) ≡ term_height t
-shift_term_height from by t = omega (arith, term_height_most 0 (raise from by) (raise_height from by) t, term_height_least (raise from by) t)
+shift_term_height from by t =
+    omega (arith, term_height_most 0 (raise from by) (raise_height from by) t, term_height_least (raise from by) t)
 
 pub shift_height : (from by : ℕ) (a : Formula) → height (shift from by a) ≡ height a
 shift_height from by a = omega (arith, height_most 0 (raise from by) (raise_height from by) a, height_least (raise from by) a)
@@ -128,9 +132,6 @@ substitute_term_height_least k v t = term_height_least (put k v) t
 
 -- ---- nodes: at most n times as many, where the terms put in have at most n
 
-times_one : (n : ℕ) → n ≡ 1 * n
-times_one n = omega arith
-
 times_step : (x y n : ℕ) → (x + y) * n ≡ x * n + y * n
 times_step x y n = grind arith
 
@@ -138,13 +139,16 @@ times_next : (x n : ℕ) → (x + 1) * n ≡ x * n + n
 times_next x n = grind arith
 
 mutual
-  term_nodes_most : (n : ℕ) (σ : ℕ → Term) → 1 ≤ n → ((i : ℕ) → term_nodes (σ i) ≤ n) → (t : Term) → term_nodes (replace_term σ t) ≤ term_nodes t * n
+  term_nodes_most : (n : ℕ) (σ : ℕ → Term) → 1 ≤ n → ((i : ℕ) → term_nodes (σ i) ≤ n) → (t : Term)
+      → term_nodes (replace_term σ t) ≤ term_nodes t * n
   term_nodes_most n σ p h (var i) = omega (arith, h i)
   term_nodes_most n σ p h (app f ts) = omega (arith, p, terms_nodes_most n σ p h ts, times_next (terms_nodes ts) n)
 
-  terms_nodes_most : (n : ℕ) (σ : ℕ → Term) → 1 ≤ n → ((i : ℕ) → term_nodes (σ i) ≤ n) → (ts : Terms) → terms_nodes (replace_terms σ ts) ≤ terms_nodes ts * n
+  terms_nodes_most : (n : ℕ) (σ : ℕ → Term) → 1 ≤ n → ((i : ℕ) → term_nodes (σ i) ≤ n) → (ts : Terms)
+      → terms_nodes (replace_terms σ ts) ≤ terms_nodes ts * n
   terms_nodes_most n σ p h nil = omega arith
-  terms_nodes_most n σ p h (cons t ts) = omega (arith, term_nodes_most n σ p h t, terms_nodes_most n σ p h ts, times_step (term_nodes t) (terms_nodes ts) n)
+  terms_nodes_most n σ p h (cons t ts) =
+      omega (arith, term_nodes_most n σ p h t, terms_nodes_most n σ p h ts, times_step (term_nodes t) (terms_nodes ts) n)
 
 lift_nodes_most : (n : ℕ) (σ : ℕ → Term) → 1 ≤ n → ((i : ℕ) → term_nodes (σ i) ≤ n) → (i : ℕ) → term_nodes (lift σ i) ≤ n
 lift_nodes_most n σ p h zero = p

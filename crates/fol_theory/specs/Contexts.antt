@@ -48,6 +48,7 @@ abbrev pub IsFromLast : {A : Type 0} → List A → ℕ → A → Type 0
 IsFromLast [] i a = ⊥
 IsFromLast (x ∷ xs) i a = ((i ≡ length xs) × (a ≡ x)) ⊎ IsFromLast xs i a
 
+-- a context and the formula that is to be shown in it
 pub record Sequent : Type 0 where
   pub context : List Entry
   pub goal : Formula

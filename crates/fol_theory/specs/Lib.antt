@@ -3,3 +3,4 @@ pub mod Substitution
 pub mod Measures
 pub mod Printing
 pub mod Contexts
+pub mod Slots

@@ -2,12 +2,15 @@
 use Rattle.std.specs.Prelude.{ℕ, zero, suc, ◌+◌, ◌-◌, if◌then◌else◌, nat_lt, ◌==◌}
 use Rattle.fol_theory.specs.Syntax.{Term, var, app, Terms, nil, cons, Formula, truth, falsity, pred, equal, both, either, implies, all, ex}
 
--- a substitution gives a term for each variable; here it is put in everywhere
+-- ---- a substitution gives a term for each variable
+
 abbrev mutual
+  -- a term with each variable's term put in for it
   pub replace_term : (ℕ → Term) → Term → Term
   replace_term σ (var i) = σ i
   replace_term σ (app f ts) = app f (replace_terms σ ts)
 
+  -- a list of terms with each variable's term put in for it
   pub replace_terms : (ℕ → Term) → Terms → Terms
   replace_terms σ nil = nil
   replace_terms σ (cons t ts) = cons (replace_term σ t) (replace_terms σ ts)
@@ -21,6 +24,7 @@ abbrev pub lift : (ℕ → Term) → ℕ → Term
 lift σ zero = var zero
 lift σ (suc i) = replace_term next (σ i)
 
+-- a formula with each variable's term put in for it, shifted under the binders that it passes
 abbrev pub replace : (ℕ → Term) → Formula → Formula
 replace σ truth = truth
 replace σ falsity = falsity
@@ -42,15 +46,19 @@ raise from by i = if nat_lt i from then var i else var (i + by)
 abbrev pub put : ℕ → Term → ℕ → Term
 put index value i = if nat_lt i index then var i else if i == index then value else var (i - 1)
 
+-- a term with the variables from `from` on greater by `by`
 abbrev pub shift_term : ℕ → ℕ → Term → Term
 shift_term from by t = replace_term (raise from by) t
 
+-- a formula with the variables outside of it from `from` on greater by `by`
 abbrev pub shift : ℕ → ℕ → Formula → Formula
 shift from by a = replace (raise from by) a
 
+-- a term with the value for the variable `index`
 abbrev pub substitute_term : ℕ → Term → Term → Term
 substitute_term index value t = replace_term (put index value) t
 
+-- a formula with the value for the variable `index` outside of it
 abbrev pub substitute : ℕ → Term → Formula → Formula
 substitute index value a = replace (put index value) a
 

@@ -1,12 +1,14 @@
 -- Terms and formulas of first-order logic over many sorts, in de Bruijn's indices. A name is its list of bytes.
-use Rattle.std.specs.Prelude.{ℕ, List, [], ◌∷◌}
+use Rattle.std.specs.Prelude.{ℕ, List, [], ◌∷◌, Bool, nat_eq}
+use Rattle.std.specs.Cmp.Lexicographic.{pointwise}
 
--- a variable counts the binders between it and its own, then the variables of the context from the newest on
 mutual
+  -- a variable counts the binders between it and its own, then the variables of the context from the newest on
   pub data Term : Type 0 where
     var : ℕ → Term
     app : List ℕ → Terms → Term
 
+  -- the arguments of a function or a predicate, in order
   pub data Terms : Type 0 where
     nil : Terms
     cons : Term → Terms → Terms
@@ -23,3 +25,7 @@ pub data Formula : Type 0 where
 abbrev pub terms : List Term → Terms
 terms [] = nil
 terms (t ∷ ts) = cons t (terms ts)
+
+-- two names are equal, byte by byte
+abbrev pub is_name : List ℕ → List ℕ → Bool
+is_name m n = pointwise nat_eq m n

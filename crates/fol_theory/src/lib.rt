@@ -13,7 +13,7 @@ mod measures;
 mod printing;
 mod substitution;
 
-pub use contexts::contexts_grow_and_shrink;
+pub use contexts::{contexts_grow_and_shrink, slots_are_entries};
 pub use indices::{no_index_passes, shifts_and_substitutions_pass};
 pub use measures::replacing_is_measured;
 pub use printing::printing_names_change_nothing;

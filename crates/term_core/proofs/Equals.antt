@@ -12,7 +12,8 @@ same_length (x ∷ xs) [] e = cc
 same_length (x ∷ xs) (y ∷ ys) e = ap suc (same_length xs ys cc)
 
 -- and do so at each place
-pub same_at : (xs ys : List Term) (i : ℕ) (a b : Term) → i < length xs → i < length ys → list_meaning xs ≡ list_meaning ys → meaning (get_or xs i a) ≡ meaning (get_or ys i b)
+pub same_at : (xs ys : List Term) (i : ℕ) (a b : Term) → i < length xs → i < length ys → list_meaning xs ≡ list_meaning ys
+    → meaning (get_or xs i a) ≡ meaning (get_or ys i b)
 same_at [] ys i a b h k e = absurd (omega arith)
 same_at (x ∷ xs) [] i a b h k e = absurd (omega arith)
 same_at (x ∷ xs) (y ∷ ys) zero a b h k e = cc

@@ -1,6 +1,7 @@
 -- Which variant a formula is, by what it stands for.
 use Rattle.std.proofs.Common.{◌≡◌, ℕ, List, refl, ap, sym, subst, ◌∙◌}
-use Rattle.std.specs.Prelude.{Vec, Box}
+use Rattle.std.specs.declared.sync.Arc.{Arc}
+use Rattle.std.specs.declared.sync.ArcSlice.{ArcSlice}
 use Rattle.std.specs.declared.alloc.Global.{Global}
 use Rattle.fol_theory.specs.Syntax.{Formula as Meaning, truth, falsity, pred, equal, both, either, implies, all, ex}
 use Rattle.fol_theory.specs.Printing.{unnamed}
@@ -12,7 +13,8 @@ use Rattle.term_core.specs.declared.formula.Formula.TheOpen.{Formula-F}
 use Rattle.term_core.specs.declared.formula.Formula.TheVariants as made
 use Rattle.term_core.specs.declared.formula.Formula.TheViews.{roll-Formula}
 use Rattle.term_core.specs.declared.formula.Formula.TheFolds.{ind-Formula, map-Formula}
-use Rattle.term_core.proofs.Variants.{meaning_True, meaning_False, unnamed_Pred, unnamed_Eq, unnamed_And, unnamed_Or, unnamed_Imp, unnamed_All, unnamed_Ex}
+use Rattle.term_core.proofs.Variants.{meaning_True, meaning_False, unnamed_Pred, unnamed_Eq, unnamed_And, unnamed_Or, unnamed_Imp}
+use Rattle.term_core.proofs.Variants.{unnamed_All, unnamed_Ex}
 
 pub data Kind : Type 0 where
   is_true is_false is_pred is_eq is_and is_or is_imp is_all is_ex : Kind
@@ -32,13 +34,13 @@ kind (ex s x a) = is_ex
 abbrev pub IsMade : Formula → Kind → Type 0
 IsMade b is_true = b ≡ made.True
 IsMade b is_false = b ≡ made.False
-IsMade b is_pred = (p : List ℕ) × (ts : Vec Term Global) × (b ≡ made.Pred p ts)
+IsMade b is_pred = (p : List ℕ) × (ts : ArcSlice Term Global) × (b ≡ made.Pred p ts)
 IsMade b is_eq = (s : List ℕ) × (x : Term) × (y : Term) × (b ≡ made.Eq s x y)
-IsMade b is_and = (x : Box Formula Global) × (y : Box Formula Global) × (b ≡ made.And x y)
-IsMade b is_or = (x : Box Formula Global) × (y : Box Formula Global) × (b ≡ made.Or x y)
-IsMade b is_imp = (x : Box Formula Global) × (y : Box Formula Global) × (b ≡ made.Imp x y)
-IsMade b is_all = (s : List ℕ) × (n : List ℕ) × (x : Box Formula Global) × (b ≡ made.All s n x)
-IsMade b is_ex = (s : List ℕ) × (n : List ℕ) × (x : Box Formula Global) × (b ≡ made.Ex s n x)
+IsMade b is_and = (x : Arc Formula Global) × (y : Arc Formula Global) × (b ≡ made.And x y)
+IsMade b is_or = (x : Arc Formula Global) × (y : Arc Formula Global) × (b ≡ made.Or x y)
+IsMade b is_imp = (x : Arc Formula Global) × (y : Arc Formula Global) × (b ≡ made.Imp x y)
+IsMade b is_all = (s : List ℕ) × (n : List ℕ) × (x : Arc Formula Global) × (b ≡ made.All s n x)
+IsMade b is_ex = (s : List ℕ) × (n : List ℕ) × (x : Arc Formula Global) × (b ≡ made.Ex s n x)
 
 abbrev Known : Formula → Type 0
 Known b = IsMade b (kind (unnamed (meaning b)))

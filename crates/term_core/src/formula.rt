@@ -4,12 +4,19 @@ ghost use Rattle.fol_theory.specs.Syntax.{equal};
 ghost use Rattle.fol_theory.specs.Substitution.{lift, put, raise, replace, shift, shift_term, substitute, substitute_term};
 ghost use Rattle.fol_theory.specs.Measures.{nodes, height, reach, term_reach, depth};
 ghost use Rattle.fol_theory.specs.Printing.{Alike};
-ghost use Rattle.term_core.specs.Formula.{meaning};
+ghost use Rattle.std.specs.Option.{option_map_or};
+ghost use Rattle.term_core.specs.Formula.{meaning, outcome, part_outcome};
 ghost use Rattle.term_core.specs.Term as term;
+ghost use Rattle.std.specs.Arc.{arc_value};
 
-use crate::term::{LIMIT, copy_all, height_of_all, put_all, same_all, shift_all, size_of_all};
+use crate::parts::{
+    conjunction, disjunction, equation, existential, implication, predicate, universal,
+};
+use crate::term::{LIMIT, height_of_all, put_all, same_all, shifted_all, size_of_all};
 use crate::{Name, Term, Terms};
 use base_core::NoMemory;
+use std::alloc::Global;
+use std::sync::Arc;
 
 /// A formula. `Eq` has the sort of its sides; `All` and `Ex` have the sort of their variable, the name that is
 /// printed for it, which no comparison sees, and the body.
@@ -19,16 +26,15 @@ pub enum Formula {
     False,
     Pred(Name, Terms),
     Eq(Name, Term, Term),
-    And(Box<Formula>, Box<Formula>),
-    Or(Box<Formula>, Box<Formula>),
-    Imp(Box<Formula>, Box<Formula>),
-    All(Name, Name, Box<Formula>),
-    Ex(Name, Name, Box<Formula>),
+    And(Arc<Formula>, Arc<Formula>),
+    Or(Arc<Formula>, Arc<Formula>),
+    Imp(Arc<Formula>, Arc<Formula>),
+    All(Name, Name, Arc<Formula>),
+    Ex(Name, Name, Arc<Formula>),
 }
 
 impl Formula {
-    /// An equal formula, with names of its own, those that are printed too.
-    #[cycle(copy)]
+    /// An equal formula, which shares names and parts.
     #[tactic(auto, using(crate::proofs::Variants::meanings))]
     pub fn copy(&self) -> Result<Formula, NoMemory>
         ensures { IfOk result (λ a. meaning a ≡ meaning self.now) }
@@ -36,108 +42,118 @@ impl Formula {
         match self {
             Formula::True => Ok(Formula::True),
             Formula::False => Ok(Formula::False),
-            Formula::Pred(p, ts) => Ok(Formula::Pred(p.copy()?, copy_all(ts)?)),
+            Formula::Pred(p, ts) => Ok(Formula::Pred(p.copy()?, ts.clone()?)),
             Formula::Eq(s, t, u) => Ok(Formula::Eq(s.copy()?, t.copy()?, u.copy()?)),
-            Formula::And(a, b) => Ok(Formula::And(copy_boxed(a)?, copy_boxed(b)?)),
-            Formula::Or(a, b) => Ok(Formula::Or(copy_boxed(a)?, copy_boxed(b)?)),
-            Formula::Imp(a, b) => Ok(Formula::Imp(copy_boxed(a)?, copy_boxed(b)?)),
-            Formula::All(s, x, a) => Ok(Formula::All(s.copy()?, x.copy()?, copy_boxed(a)?)),
-            Formula::Ex(s, x, a) => Ok(Formula::Ex(s.copy()?, x.copy()?, copy_boxed(a)?)),
+            Formula::And(a, b) => Ok(Formula::And(a.clone()?, b.clone()?)),
+            Formula::Or(a, b) => Ok(Formula::Or(a.clone()?, b.clone()?)),
+            Formula::Imp(a, b) => Ok(Formula::Imp(a.clone()?, b.clone()?)),
+            Formula::All(s, x, a) => Ok(Formula::All(s.copy()?, x.copy()?, a.clone()?)),
+            Formula::Ex(s, x, a) => Ok(Formula::Ex(s.copy()?, x.copy()?, a.clone()?)),
         }
     }
 
     /// The formula with each variable that, outside its own binders, is at least `from` greater by `by`.
-    #[cycle(shift)]
-    #[tactic(auto, using(crate::proofs::Variants::replacements))]
-    pub fn shift(&self, from: u64, by: u64) -> Result<Formula, NoMemory>
+    pub fn shift(&self, alloc: Global, from: u64, by: u64) -> Result<Formula, NoMemory>
         requires from { from + depth (meaning self.now) < 2 ^ 64 }
         requires indices { reach (shift from by (meaning self.now)) ≤ 2 ^ 64 }
         ensures { IfOk result (λ a. meaning a ≡ shift from by (meaning self.now)) }
     {
+        match self.shifted(alloc, from, by)? {
+            None => self.copy(),
+            Some(a) => Ok(a),
+        }
+    }
+
+    /// The same, or None where each variable is left as it is. Parts that are left are shared.
+    #[cycle(shift)]
+    #[tactic(auto, using(crate::proofs::Variants::replacements))]
+    fn shifted(&self, alloc: Global, from: u64, by: u64) -> Result<Option<Formula>, NoMemory>
+        requires from { from + depth (meaning self.now) < 2 ^ 64 }
+        requires indices { reach (shift from by (meaning self.now)) ≤ 2 ^ 64 }
+        ensures { IfOk result (λ a. outcome a self.now ≡ shift from by (meaning self.now)) }
+    {
         match self {
-            Formula::True => Ok(Formula::True),
-            Formula::False => Ok(Formula::False),
-            Formula::Pred(p, ts) => Ok(Formula::Pred(p.copy()?, shift_all(ts, from, by)?)),
-            Formula::Eq(s, t, u) => Ok(Formula::Eq(
-                s.copy()?,
-                t.shift(from, by)?,
-                u.shift(from, by)?,
-            )),
-            Formula::And(a, b) => Ok(Formula::And(
-                shift_boxed(a, from, by)?,
-                shift_boxed(b, from, by)?,
-            )),
-            Formula::Or(a, b) => Ok(Formula::Or(
-                shift_boxed(a, from, by)?,
-                shift_boxed(b, from, by)?,
-            )),
-            Formula::Imp(a, b) => Ok(Formula::Imp(
-                shift_boxed(a, from, by)?,
-                shift_boxed(b, from, by)?,
-            )),
-            Formula::All(s, x, a) => Ok(Formula::All(
-                s.copy()?,
-                x.copy()?,
-                shift_under(a, from, by)?,
-            )),
-            Formula::Ex(s, x, a) => Ok(Formula::Ex(
-                s.copy()?,
-                x.copy()?,
-                shift_under(a, from, by)?,
-            )),
+            Formula::True | Formula::False => Ok(None),
+            Formula::Pred(p, ts) => predicate(p, ts, shifted_all(alloc, ts.as_slice(), from, by)?),
+            Formula::Eq(s, t, u) => {
+                let left = t.shifted(alloc, from, by)?;
+                equation(s, t, left, u, u.shifted(alloc, from, by)?)
+            }
+            Formula::And(a, b) => {
+                let left = shifted_part(alloc, a, from, by)?;
+                conjunction(a, left, b, shifted_part(alloc, b, from, by)?)
+            }
+            Formula::Or(a, b) => {
+                let left = shifted_part(alloc, a, from, by)?;
+                disjunction(a, left, b, shifted_part(alloc, b, from, by)?)
+            }
+            Formula::Imp(a, b) => {
+                let left = shifted_part(alloc, a, from, by)?;
+                implication(a, left, b, shifted_part(alloc, b, from, by)?)
+            }
+            Formula::All(s, x, a) => universal(s, x, a, shifted_body(alloc, a, from, by)?),
+            Formula::Ex(s, x, a) => existential(s, x, a, shifted_body(alloc, a, from, by)?),
         }
     }
 
     /// The formula with `value`, shifted under binders, for the variable `index`, and the greater variables
     /// lowered by 1.
     #[tactic(auto, using(crate::proofs::Applications::no_shift))]
-    pub fn substitute(&self, index: u64, value: &Term) -> Result<Formula, NoMemory>
+    pub fn substitute(&self, alloc: Global, index: u64, value: &Term) -> Result<Formula, NoMemory>
         requires index { index + depth (meaning self.now) < 2 ^ 64 }
         requires indices { reach (substitute index (term.meaning value.now) (meaning self.now)) ≤ 2 ^ 64 }
         ensures { IfOk result (λ a. meaning a ≡ substitute index (term.meaning value.now) (meaning self.now)) }
     {
-        self.put(index, value, 0)
+        match self.put(alloc, index, value, 0)? {
+            None => self.copy(),
+            Some(a) => Ok(a),
+        }
     }
 
-    /// The same under `binders` binders, which the value has to pass.
+    /// The same under `binders` binders, which the value has to pass, or None where each variable is left as it is.
+    /// Parts that are left are shared.
     #[cycle(put)]
     #[tactic(auto, using(crate::proofs::Variants::replacements))]
-    fn put(&self, index: u64, value: &Term, binders: u64) -> Result<Formula, NoMemory>
+    fn put(
+        &self,
+        alloc: Global,
+        index: u64,
+        value: &Term,
+        binders: u64,
+    ) -> Result<Option<Formula>, NoMemory>
         requires binders { binders ≤ index }
         requires index { index + depth (meaning self.now) < 2 ^ 64 }
         requires indices { reach (substitute index (shift_term 0 binders (term.meaning value.now)) (meaning self.now)) ≤ 2 ^ 64 }
-        ensures { IfOk result (λ a. meaning a ≡ substitute index (shift_term 0 binders (term.meaning value.now)) (meaning self.now)) }
+        ensures { IfOk result (λ a. outcome a self.now
+            ≡ substitute index (shift_term 0 binders (term.meaning value.now)) (meaning self.now)) }
     {
         match self {
-            Formula::True => Ok(Formula::True),
-            Formula::False => Ok(Formula::False),
-            Formula::Pred(p, ts) => Ok(Formula::Pred(
-                p.copy()?,
-                put_all(ts, index, value, binders)?,
-            )),
-            Formula::Eq(s, t, u) => put_equation(s, t, u, index, value, binders),
-            Formula::And(a, b) => Ok(Formula::And(
-                put_boxed(a, index, value, binders)?,
-                put_boxed(b, index, value, binders)?,
-            )),
-            Formula::Or(a, b) => Ok(Formula::Or(
-                put_boxed(a, index, value, binders)?,
-                put_boxed(b, index, value, binders)?,
-            )),
-            Formula::Imp(a, b) => Ok(Formula::Imp(
-                put_boxed(a, index, value, binders)?,
-                put_boxed(b, index, value, binders)?,
-            )),
-            Formula::All(s, x, a) => Ok(Formula::All(
-                s.copy()?,
-                x.copy()?,
-                put_under(a, index, value, binders)?,
-            )),
-            Formula::Ex(s, x, a) => Ok(Formula::Ex(
-                s.copy()?,
-                x.copy()?,
-                put_under(a, index, value, binders)?,
-            )),
+            Formula::True | Formula::False => Ok(None),
+            Formula::Pred(p, ts) => predicate(
+                p,
+                ts,
+                put_all(alloc, ts.as_slice(), index, value, binders)?,
+            ),
+            Formula::Eq(s, t, u) => put_equation(alloc, s, t, u, index, value, binders),
+            Formula::And(a, b) => {
+                let left = put_part(alloc, a, index, value, binders)?;
+                conjunction(a, left, b, put_part(alloc, b, index, value, binders)?)
+            }
+            Formula::Or(a, b) => {
+                let left = put_part(alloc, a, index, value, binders)?;
+                disjunction(a, left, b, put_part(alloc, b, index, value, binders)?)
+            }
+            Formula::Imp(a, b) => {
+                let left = put_part(alloc, a, index, value, binders)?;
+                implication(a, left, b, put_part(alloc, b, index, value, binders)?)
+            }
+            Formula::All(s, x, a) => universal(s, x, a, put_body(alloc, a, index, value, binders)?),
+            Formula::Ex(s, x, a) => existential(
+                s,
+                x,
+                a,
+                put_body(alloc, a, index, value, binders)?,
+            ),
         }
     }
 
@@ -148,7 +164,8 @@ impl Formula {
     {
         match (self, other) {
             (Formula::True, Formula::True) | (Formula::False, Formula::False) => true,
-            (Formula::Pred(p, xs), Formula::Pred(q, ys)) => p.same(q) && same_all(xs, ys),
+            (Formula::Pred(p, xs), Formula::Pred(q, ys)) => p.same(q)
+                && same_all(xs.as_slice(), ys.as_slice()),
             (Formula::Eq(s, t, u), Formula::Eq(z, v, w)) => s.same(z) && t.same(v) && u.same(w),
             (Formula::And(a, b), Formula::And(c, d))
             | (Formula::Or(a, b), Formula::Or(c, d))
@@ -171,7 +188,7 @@ impl Formula {
     {
         match self {
             Formula::True | Formula::False => 1,
-            Formula::Pred(_, ts) => size_of_all(ts).min(LIMIT - 1) + 1,
+            Formula::Pred(_, ts) => size_of_all(ts.as_slice()).min(LIMIT - 1) + 1,
             Formula::Eq(_, t, u) => (t.size() + u.size()).min(LIMIT - 1) + 1,
             Formula::And(a, b) | Formula::Or(a, b) | Formula::Imp(a, b) => {
                 (a.size() + b.size()).min(LIMIT - 1) + 1
@@ -187,7 +204,7 @@ impl Formula {
     {
         match self {
             Formula::True | Formula::False => 1,
-            Formula::Pred(_, ts) => height_of_all(ts).min(LIMIT - 1) + 1,
+            Formula::Pred(_, ts) => height_of_all(ts.as_slice()).min(LIMIT - 1) + 1,
             Formula::Eq(_, t, u) => t.height().max(u.height()).min(LIMIT - 1) + 1,
             Formula::And(a, b) | Formula::Or(a, b) | Formula::Imp(a, b) => {
                 a.height().max(b.height()).min(LIMIT - 1) + 1
@@ -197,78 +214,96 @@ impl Formula {
     }
 }
 
-#[cycle(copy)]
-fn copy_boxed(a: &Box<Formula>) -> Result<Box<Formula>, NoMemory>
-    ensures { IfOk result (λ copy. meaning copy.value ≡ meaning a.now.value) }
-{
-    Ok(Box::new(*Box::allocator(a), a.copy()?)?)
-}
-
+/// A part, made anew where a variable in it moves.
 #[cycle(shift)]
-fn shift_boxed(a: &Box<Formula>, from: u64, by: u64) -> Result<Box<Formula>, NoMemory>
-    requires from { from + depth (meaning a.now.value) < 2 ^ 64 }
-    requires indices { reach (shift from by (meaning a.now.value)) ≤ 2 ^ 64 }
-    ensures { IfOk result (λ out. meaning out.value ≡ shift from by (meaning a.now.value)) }
+fn shifted_part(
+    alloc: Global,
+    a: &Arc<Formula>,
+    from: u64,
+    by: u64,
+) -> Result<Option<Arc<Formula>>, NoMemory>
+    requires from { from + depth (meaning (arc_value a.now)) < 2 ^ 64 }
+    requires indices { reach (shift from by (meaning (arc_value a.now))) ≤ 2 ^ 64 }
+    ensures { IfOk result (λ r. part_outcome r a.now ≡ shift from by (meaning (arc_value a.now))) }
 {
-    Ok(Box::new(*Box::allocator(a), a.shift(from, by)?)?)
+    match a.shifted(alloc, from, by)? {
+        None => Ok(None),
+        Some(b) => Ok(Some(Arc::new(alloc, b)?)),
+    }
 }
 
 /// The body of a binder, whose own variable is below those that are raised.
 #[cycle(shift)]
-fn shift_under(a: &Box<Formula>, from: u64, by: u64) -> Result<Box<Formula>, NoMemory>
-    requires from { from + 1 + depth (meaning a.now.value) < 2 ^ 64 }
-    requires indices { reach (replace (lift (raise from by)) (meaning a.now.value)) ≤ 2 ^ 64 }
-    ensures { IfOk result (λ out. meaning out.value ≡ replace (lift (raise from by)) (meaning a.now.value)) }
+fn shifted_body(
+    alloc: Global,
+    a: &Arc<Formula>,
+    from: u64,
+    by: u64,
+) -> Result<Option<Arc<Formula>>, NoMemory>
+    requires from { from + 1 + depth (meaning (arc_value a.now)) < 2 ^ 64 }
+    requires indices { reach (replace (lift (raise from by)) (meaning (arc_value a.now))) ≤ 2 ^ 64 }
+    ensures { IfOk result (λ r. part_outcome r a.now ≡ replace (lift (raise from by)) (meaning (arc_value a.now))) }
 {
-    Ok(Box::new(*Box::allocator(a), a.shift(from + 1, by)?)?)
+    shifted_part(alloc, a, from + 1, by)
 }
 
+/// A part, made anew where a variable in it changes.
 #[cycle(put)]
-fn put_boxed(
-    a: &Box<Formula>,
+fn put_part(
+    alloc: Global,
+    a: &Arc<Formula>,
     index: u64,
     value: &Term,
     binders: u64,
-) -> Result<Box<Formula>, NoMemory>
+) -> Result<Option<Arc<Formula>>, NoMemory>
     requires binders { binders ≤ index }
-    requires index { index + depth (meaning a.now.value) < 2 ^ 64 }
-    requires indices { reach (substitute index (shift_term 0 binders (term.meaning value.now)) (meaning a.now.value)) ≤ 2 ^ 64 }
-    ensures { IfOk result (λ out. meaning out.value ≡ substitute index (shift_term 0 binders (term.meaning value.now)) (meaning a.now.value)) }
+    requires index { index + depth (meaning (arc_value a.now)) < 2 ^ 64 }
+    requires indices { reach (substitute index (shift_term 0 binders (term.meaning value.now)) (meaning (arc_value a.now))) ≤ 2 ^ 64 }
+    ensures { IfOk result (λ r. part_outcome r a.now
+        ≡ substitute index (shift_term 0 binders (term.meaning value.now)) (meaning (arc_value a.now))) }
 {
-    Ok(Box::new(*Box::allocator(a), a.put(index, value, binders)?)?)
+    match a.put(alloc, index, value, binders)? {
+        None => Ok(None),
+        Some(b) => Ok(Some(Arc::new(alloc, b)?)),
+    }
 }
 
-#[tactic(auto, using(crate::proofs::Variants::meanings))]
+/// The body of a binder, which is one binder more to pass.
+#[cycle(put)]
+fn put_body(
+    alloc: Global,
+    a: &Arc<Formula>,
+    index: u64,
+    value: &Term,
+    binders: u64,
+) -> Result<Option<Arc<Formula>>, NoMemory>
+    requires binders { binders ≤ index }
+    requires index { index + 1 + depth (meaning (arc_value a.now)) < 2 ^ 64 }
+    requires indices { reach (replace (lift (put index (shift_term 0 binders (term.meaning value.now))))
+        (meaning (arc_value a.now))) ≤ 2 ^ 64 }
+    ensures { IfOk result (λ r. part_outcome r a.now
+        ≡ replace (lift (put index (shift_term 0 binders (term.meaning value.now)))) (meaning (arc_value a.now))) }
+{
+    put_part(alloc, a, index + 1, value, binders + 1)
+}
+
+/// An equation with the value put into its sides.
 fn put_equation(
+    alloc: Global,
     sort: &Name,
     t: &Term,
     u: &Term,
     index: u64,
     value: &Term,
     binders: u64,
-) -> Result<Formula, NoMemory>
-    requires { max (term_reach (substitute_term index (shift_term 0 binders (term.meaning value.now)) (term.meaning t.now))) (term_reach (substitute_term index (shift_term 0 binders (term.meaning value.now)) (term.meaning u.now))) ≤ 2 ^ 64 }
-    ensures { IfOk result (λ a. meaning a ≡ equal sort.now (substitute_term index (shift_term 0 binders (term.meaning value.now)) (term.meaning t.now)) (substitute_term index (shift_term 0 binders (term.meaning value.now)) (term.meaning u.now))) }
+) -> Result<Option<Formula>, NoMemory>
+    requires { max (term_reach (substitute_term index (shift_term 0 binders (term.meaning value.now)) (term.meaning t.now)))
+        (term_reach (substitute_term index (shift_term 0 binders (term.meaning value.now)) (term.meaning u.now))) ≤ 2 ^ 64 }
+    ensures { IfOk result (λ a. option_map_or meaning a (equal sort.now (term.meaning t.now) (term.meaning u.now))
+        ≡ equal sort.now
+        (substitute_term index (shift_term 0 binders (term.meaning value.now)) (term.meaning t.now))
+        (substitute_term index (shift_term 0 binders (term.meaning value.now)) (term.meaning u.now))) }
 {
-    Ok(Formula::Eq(
-        sort.copy()?,
-        t.put(index, value, binders)?,
-        u.put(index, value, binders)?,
-    ))
-}
-
-/// The body of a binder, which is one binder more to pass.
-#[cycle(put)]
-fn put_under(
-    a: &Box<Formula>,
-    index: u64,
-    value: &Term,
-    binders: u64,
-) -> Result<Box<Formula>, NoMemory>
-    requires binders { binders ≤ index }
-    requires index { index + 1 + depth (meaning a.now.value) < 2 ^ 64 }
-    requires indices { reach (replace (lift (put index (shift_term 0 binders (term.meaning value.now)))) (meaning a.now.value)) ≤ 2 ^ 64 }
-    ensures { IfOk result (λ out. meaning out.value ≡ replace (lift (put index (shift_term 0 binders (term.meaning value.now)))) (meaning a.now.value)) }
-{
-    Ok(Box::new(*Box::allocator(a), a.put(index + 1, value, binders + 1)?)?)
+    let left = t.put(alloc, index, value, binders)?;
+    equation(sort, t, left, u, u.put(alloc, index, value, binders)?)
 }

@@ -1,12 +1,33 @@
 //! Terms.
-ghost use Rattle.std.specs.Prelude.{◌≡◌, ◌↔◌, ◌<◌, ◌≤◌, ◌^◌, min, IfOk, IsTrue};
-ghost use Rattle.fol_theory.specs.Syntax.{var};
+ghost use Rattle.std.specs.Prelude.{
+  ◌≡◌,
+  ◌↔◌,
+  ◌<◌,
+  ◌≤◌,
+  ◌^◌,
+  ◌+◌,
+  min,
+  IfOk,
+  IsTrue,
+  List,
+  [],
+  ◌∷◌,
+  ◌++◌,
+  length,
+  map,
+  take,
+  slice_index_or,
+};
+ghost use Rattle.fol_theory.specs.Syntax.{terms};
 ghost use Rattle.fol_theory.specs.Substitution.{replace_terms, raise, put, shift_term, substitute_term};
 ghost use Rattle.fol_theory.specs.Measures.{term_nodes, terms_nodes, term_height, terms_height, term_reach, terms_reach};
-ghost use Rattle.term_core.specs.Term.{meaning, list_meaning};
+ghost use Rattle.term_core.specs.Term.{meaning, list_meaning, outcome, list_outcome, each_outcome};
+ghost use Rattle.term_core.specs.declared.term.Term.{Term};
 
 use crate::Name;
 use base_core::NoMemory;
+use std::alloc::Global;
+use std::sync::ArcSlice;
 
 /// A variable counts the binders between it and its own, then the variables of the context from the newest on. An
 /// application has the name of its function and the arguments.
@@ -17,62 +38,101 @@ pub enum Term {
 }
 
 /// The arguments of a function or a predicate, in order.
-pub type Terms = Vec<Term>;
+pub type Terms = ArcSlice<Term>;
 
 /// Where `size` and `height` stop: this stands for itself and everything above.
 pub(crate) const LIMIT: u64 = 1 << 32;
 
 impl Term {
-    /// An equal term, with names of its own.
-    #[cycle(copy)]
+    /// An equal term, which shares names and arguments.
     pub fn copy(&self) -> Result<Term, NoMemory>
         ensures { IfOk result (λ t. meaning t ≡ meaning self.now) }
     {
         match self {
             Term::Var(i) => Ok(Term::Var(*i)),
-            Term::App(f, ts) => Ok(Term::App(f.copy()?, copy_all(ts)?)),
+            Term::App(f, ts) => Ok(Term::App(f.copy()?, ts.clone()?)),
         }
     }
 
     /// The term with each variable that is at least `from` greater by `by`. A term has no binders.
-    #[cycle(shift)]
-    #[tactic(auto, using(crate::proofs::Applications::applications))]
-    pub fn shift(&self, from: u64, by: u64) -> Result<Term, NoMemory>
+    pub fn shift(&self, alloc: Global, from: u64, by: u64) -> Result<Term, NoMemory>
         requires { term_reach (shift_term from by (meaning self.now)) ≤ 2 ^ 64 }
         ensures { IfOk result (λ t. meaning t ≡ shift_term from by (meaning self.now)) }
     {
+        match self.shifted(alloc, from, by)? {
+            None => self.copy(),
+            Some(t) => Ok(t),
+        }
+    }
+
+    /// The same, or None where each variable is left as it is.
+    #[cycle(shift)]
+    #[tactic(auto, using(crate::proofs::Applications::applications))]
+    pub(crate) fn shifted(
+        &self,
+        alloc: Global,
+        from: u64,
+        by: u64,
+    ) -> Result<Option<Term>, NoMemory>
+        requires { term_reach (shift_term from by (meaning self.now)) ≤ 2 ^ 64 }
+        ensures { IfOk result (λ t. outcome t self.now ≡ shift_term from by (meaning self.now)) }
+    {
         match self {
-            Term::Var(i) => Ok(Term::Var(shift_index(*i, from, by))),
-            Term::App(f, ts) => Ok(Term::App(f.copy()?, shift_all(ts, from, by)?)),
+            Term::Var(i) => {
+                if *i < from || by == 0 {
+                    Ok(None)
+                } else {
+                    Ok(Some(Term::Var(*i + by)))
+                }
+            }
+            Term::App(f, ts) => match shifted_all(alloc, ts.as_slice(), from, by)? {
+                None => Ok(None),
+                Some(ts) => Ok(Some(Term::App(f.copy()?, ts))),
+            },
         }
     }
 
     /// The term with `value` for the variable `index`, and the greater variables lowered by 1.
     #[tactic(auto, using(crate::proofs::Applications::no_shift))]
-    pub fn substitute(&self, index: u64, value: &Term) -> Result<Term, NoMemory>
+    pub fn substitute(&self, alloc: Global, index: u64, value: &Term) -> Result<Term, NoMemory>
         ensures { IfOk result (λ t. meaning t ≡ substitute_term index (meaning value.now) (meaning self.now)) }
     {
-        self.put(index, value, 0)
+        match self.put(alloc, index, value, 0)? {
+            None => self.copy(),
+            Some(t) => Ok(t),
+        }
     }
 
-    /// The same under `binders` binders of a formula, which the value has to pass.
+    /// The same under `binders` binders of a formula, which the value has to pass, or None where each variable is
+    /// left as it is.
     #[cycle(put)]
     #[tactic(auto, using(crate::proofs::Applications::applications))]
-    pub(crate) fn put(&self, index: u64, value: &Term, binders: u64) -> Result<Term, NoMemory>
-        requires { 0 < binders → term_reach (substitute_term index (shift_term 0 binders (meaning value.now)) (meaning self.now)) ≤ 2 ^ 64 }
-        ensures { IfOk result (λ t. meaning t ≡ substitute_term index (shift_term 0 binders (meaning value.now)) (meaning self.now)) }
+    pub(crate) fn put(
+        &self,
+        alloc: Global,
+        index: u64,
+        value: &Term,
+        binders: u64,
+    ) -> Result<Option<Term>, NoMemory>
+        requires { 0 < binders
+            → term_reach (substitute_term index (shift_term 0 binders (meaning value.now)) (meaning self.now)) ≤ 2 ^ 64 }
+        ensures { IfOk result (λ t. outcome t self.now
+            ≡ substitute_term index (shift_term 0 binders (meaning value.now)) (meaning self.now)) }
     {
         match self {
             Term::Var(i) => {
                 if *i < index {
-                    Ok(Term::Var(*i))
+                    Ok(None)
                 } else if *i == index {
-                    shift_value(value, binders)
+                    Ok(Some(shift_value(alloc, value, binders)?))
                 } else {
-                    Ok(Term::Var(*i - 1))
+                    Ok(Some(Term::Var(*i - 1)))
                 }
             }
-            Term::App(f, ts) => Ok(Term::App(f.copy()?, put_all(ts, index, value, binders)?)),
+            Term::App(f, ts) => match put_all(alloc, ts.as_slice(), index, value, binders)? {
+                None => Ok(None),
+                Some(ts) => Ok(Some(Term::App(f.copy()?, ts))),
+            },
         }
     }
 
@@ -84,7 +144,8 @@ impl Term {
     {
         match (self, other) {
             (Term::Var(i), Term::Var(j)) => *i == *j,
-            (Term::App(f, xs), Term::App(g, ys)) => f.same(g) && same_all(xs, ys),
+            (Term::App(f, xs), Term::App(g, ys)) => f.same(g)
+                && same_all(xs.as_slice(), ys.as_slice()),
             _ => false,
         }
     }
@@ -97,7 +158,7 @@ impl Term {
     {
         match self {
             Term::Var(_) => 1,
-            Term::App(_, ts) => size_of_all(ts).min(LIMIT - 1) + 1,
+            Term::App(_, ts) => size_of_all(ts.as_slice()).min(LIMIT - 1) + 1,
         }
     }
 
@@ -109,65 +170,112 @@ impl Term {
     {
         match self {
             Term::Var(_) => 1,
-            Term::App(_, ts) => height_of_all(ts).min(LIMIT - 1) + 1,
+            Term::App(_, ts) => height_of_all(ts.as_slice()).min(LIMIT - 1) + 1,
         }
     }
 }
 
-#[cycle(copy)]
-pub(crate) fn copy_all(ts: &Terms) -> Result<Terms, NoMemory>
-    ensures { IfOk result (λ copy. list_meaning copy.items ≡ list_meaning ts.now.items) }
+/// Copies of terms, with room for so many in all.
+fn copies(alloc: Global, ts: &[Term], room: usize) -> Result<Vec<Term>, NoMemory>
+    ensures { IfOk result (λ list. map meaning list.items ≡ map meaning ts.now) }
 {
-    let mut copy = Vec::with_capacity(*ts.allocator(), ts.len())?;
+    let mut list = Vec::with_capacity(alloc, room)?;
     for t in ts {
-        copy.push(t.copy()?)?;
+        list.push(t.copy()?)?;
     }
-    Ok(copy)
+    Ok(list)
 }
 
-/// A variable, shifted.
-fn shift_index(i: u64, from: u64, by: u64) -> u64
-    requires { term_reach (raise from by i) ≤ 2 ^ 64 }
-    ensures { var result ≡ raise from by i }
+/// The terms before another and that one, from what they have become. A list is made where the first one has changed.
+fn joined(
+    alloc: Global,
+    all: &[Term],
+    i: usize,
+    before: Option<Vec<Term>>,
+    new: Option<Term>,
+) -> Result<Option<Vec<Term>>, NoMemory>
+    requires { i < length all.now }
+    ensures { IfOk result (λ r. (d : Term) → each_outcome r (take (i + 1) all.now)
+        ≡ each_outcome before (take i all.now) ++ outcome new (slice_index_or all.now i d) ∷ []) }
 {
-    if i < from { i } else { i + by }
+    match (before, new) {
+        (None, None) => Ok(None),
+        (None, Some(t)) => {
+            let mut list = copies(alloc, &all[..i], all.len())?;
+            list.push(t)?;
+            Ok(Some(list))
+        }
+        (Some(mut list), None) => {
+            list.push(all[i].copy()?)?;
+            Ok(Some(list))
+        }
+        (Some(mut list), Some(t)) => {
+            list.push(t)?;
+            Ok(Some(list))
+        }
+    }
+}
+
+/// The list of them, shared from now on.
+fn shared(list: Option<Vec<Term>>) -> Result<Option<Terms>, NoMemory>
+    ensures { IfOk result (λ r. (ts : List Term) → list_outcome r ts ≡ terms (each_outcome list ts)) }
+{
+    match list {
+        None => Ok(None),
+        Some(list) => Ok(Some(ArcSlice::from_vec(list)?)),
+    }
 }
 
 #[cycle(shift)]
-pub(crate) fn shift_all(ts: &Terms, from: u64, by: u64) -> Result<Terms, NoMemory>
-    requires { terms_reach (replace_terms (raise from by) (list_meaning ts.now.items)) ≤ 2 ^ 64 }
-    ensures { IfOk result (λ out. list_meaning out.items ≡ replace_terms (raise from by) (list_meaning ts.now.items)) }
+pub(crate) fn shifted_all(
+    alloc: Global,
+    ts: &[Term],
+    from: u64,
+    by: u64,
+) -> Result<Option<Terms>, NoMemory>
+    requires { terms_reach (replace_terms (raise from by) (list_meaning ts.now)) ≤ 2 ^ 64 }
+    ensures { IfOk result (λ us. list_outcome us ts.now ≡ replace_terms (raise from by) (list_meaning ts.now)) }
 {
-    let mut shifted = Vec::with_capacity(*ts.allocator(), ts.len())?;
-    for t in ts {
-        shifted.push(t.shift(from, by)?)?;
+    let mut list: Option<Vec<Term>> = None;
+    for i in 0..ts.len() {
+        let new = ts[i].shifted(alloc, from, by)?;
+        list = joined(alloc, ts, i, list, new)?;
     }
-    Ok(shifted)
+    shared(list)
 }
 
 /// The value as it stands under binders. At none it is copied, so that no index can pass.
 #[tactic(auto, using(crate::proofs::Applications::no_shift))]
-fn shift_value(value: &Term, binders: u64) -> Result<Term, NoMemory>
+fn shift_value(alloc: Global, value: &Term, binders: u64) -> Result<Term, NoMemory>
     requires { 0 < binders → term_reach (shift_term 0 binders (meaning value.now)) ≤ 2 ^ 64 }
     ensures { IfOk result (λ t. meaning t ≡ shift_term 0 binders (meaning value.now)) }
 {
     if binders == 0 {
         value.copy()
     } else {
-        value.shift(0, binders)
+        value.shift(alloc, 0, binders)
     }
 }
 
 #[cycle(put)]
-pub(crate) fn put_all(ts: &Terms, index: u64, value: &Term, binders: u64) -> Result<Terms, NoMemory>
-    requires { 0 < binders → terms_reach (replace_terms (put index (shift_term 0 binders (meaning value.now))) (list_meaning ts.now.items)) ≤ 2 ^ 64 }
-    ensures { IfOk result (λ out. list_meaning out.items ≡ replace_terms (put index (shift_term 0 binders (meaning value.now))) (list_meaning ts.now.items)) }
+pub(crate) fn put_all(
+    alloc: Global,
+    ts: &[Term],
+    index: u64,
+    value: &Term,
+    binders: u64,
+) -> Result<Option<Terms>, NoMemory>
+    requires { 0 < binders
+        → terms_reach (replace_terms (put index (shift_term 0 binders (meaning value.now))) (list_meaning ts.now)) ≤ 2 ^ 64 }
+    ensures { IfOk result (λ us. list_outcome us ts.now
+        ≡ replace_terms (put index (shift_term 0 binders (meaning value.now))) (list_meaning ts.now)) }
 {
-    let mut replaced = Vec::with_capacity(*ts.allocator(), ts.len())?;
-    for t in ts {
-        replaced.push(t.put(index, value, binders)?)?;
+    let mut list: Option<Vec<Term>> = None;
+    for i in 0..ts.len() {
+        let new = ts[i].put(alloc, index, value, binders)?;
+        list = joined(alloc, ts, i, list, new)?;
     }
-    Ok(replaced)
+    shared(list)
 }
 
 #[cycle(same)]

@@ -1,4 +1,5 @@
 use Rattle.fol_theory.proofs.Reaches as reaches
+use Rattle.fol_theory.proofs.Untouched as untouched
 use Rattle.fol_theory.proofs.indices.no_index_passes.Goals as goal
 
 pub returns-clause-shift_reach : goal.returns-clause-shift_reach
@@ -27,3 +28,6 @@ returns-clause-substitute c = reaches.substitute_fits
 
 pub returns-clause-substitute_term : goal.returns-clause-substitute_term
 returns-clause-substitute_term c = reaches.substitute_term_fits
+
+pub returns-clause-range : goal.returns-clause-range
+returns-clause-range c = untouched.range_reach

@@ -1,6 +1,7 @@
 use Rattle.fol_theory.proofs.AtIndex as at
 use Rattle.fol_theory.proofs.Gaps as gaps
 use Rattle.fol_theory.proofs.Pairs as pairs
+use Rattle.fol_theory.proofs.Untouched as untouched
 use Rattle.fol_theory.proofs.indices.shifts_and_substitutions_pass.Goals as goal
 
 pub returns-clause-shift_none : goal.returns-clause-shift_none
@@ -71,3 +72,15 @@ returns-clause-substitute_substitute_below c = pairs.substitute_substitute_below
 
 pub returns-clause-substitute_substitute_below_term : goal.returns-clause-substitute_substitute_below_term
 returns-clause-substitute_substitute_below_term c = pairs.substitute_substitute_below_term
+
+pub returns-clause-shift_within : goal.returns-clause-shift_within
+returns-clause-shift_within c = untouched.shift_within
+
+pub returns-clause-shift_within_term : goal.returns-clause-shift_within_term
+returns-clause-shift_within_term c = untouched.shift_within_term
+
+pub returns-clause-substitute_within : goal.returns-clause-substitute_within
+returns-clause-substitute_within c = untouched.substitute_within
+
+pub returns-clause-substitute_within_term : goal.returns-clause-substitute_within_term
+returns-clause-substitute_within_term c = untouched.substitute_within_term
