@@ -10,10 +10,10 @@ ghost use Rattle.doc_theory.specs.Invariants.{IfChanged};
 ghost use Rattle.doc_theory.specs.Line.{line, IsAddedTo, IsOpen, HasIds};
 ghost use Rattle.line_theory.specs.Lists.{last_or, IsCut};
 
-/// Each change of a document is one change of its line: a removal takes one piece out, and a sentence that is added puts the next id in
-/// at one place, or leaves the line as it is where it closes a zone. So ids stay distinct, and what a Join tells and
-/// asks for is what an Exec
-/// of the tip tells and asks for; and an Exec that has told the first of what is due has the others left, as they were.
+/// Each change of a document is one change of its line: a removal takes one piece out, and a sentence that is added
+/// puts the next id in at one place, or leaves the line as it is where it closes a zone. So ids stay distinct, and what
+/// a Join tells and asks for is what an Exec of the tip tells and asks for; and an Exec that has told the first of what
+/// is due has the others left, as they were.
 pub fn line_changes_at_one_place<S>()
     ensures ids { (d : Document) → ids d ≡ line d }
     ensures removed { (d : Document) (i : ℕ) → IfChanged (λ e. IsCut (line d) (line e)) (remove d i) }
@@ -25,8 +25,8 @@ pub fn line_changes_at_one_place<S>()
     ensures join { (L : Check S) (d : Document) → HasIds d → all_due L d ≡ due L d (tip d) }
 {}
 
-/// A sentence that is removed inside of a block takes the edit of the one before it: what `remove_at` makes of such a seat is the edit at
-/// the last id of the front that stays, or at the lemma.
+/// A sentence that is removed inside of a block takes the edit of the one before it: what `remove_at` makes of such a
+/// seat is the edit at the last id of the front that stays, or at the lemma.
 pub fn removal_is_an_edit()
     ensures inside { (d : Document) (a t : List Item) (l : Entry) (f : List Entry) (e : Entry) (k : List Entry) (c : Entry) →
         HasIds d → d.items ≡ a ++ (block l (f ++ (e ∷ k)) c ∷ t) → edit d (last_or l.id (map (λ x. x.id) f))

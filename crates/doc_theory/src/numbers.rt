@@ -13,7 +13,8 @@ pub fn numbers_are_counted<S>()
     ensures counted { (L : Check S) → Laws L → (limit : ℕ) (h : List Event) → Legal L limit h → Counted (standing L limit h) }
     ensures posted { (L : Check S) → Laws L → (limit : ℕ) (h : List Event) → Legal L limit h
         → (standing L limit h).table.next + 2 ≤ (standing L limit h).document.next }
-    ensures rise { (L : Check S) (limit : ℕ) (h k : List Event) → (standing L limit h).document.next ≤ (standing L limit (h ++ k)).document.next }
+    ensures rise { (L : Check S) (limit : ℕ) (h k : List Event) → (standing L limit h).document.next
+        ≤ (standing L limit (h ++ k)).document.next }
     ensures given { (d : Document) (offset : ℕ) (x : Sentence) → HasNext d (attempt d offset x) }
 {}
 
@@ -22,5 +23,6 @@ pub fn histories_go_on<S>()
     ensures standing { (L : Check S) (limit : ℕ) (h k : List Event) → standing L limit (h ++ k) ≡ standing_from L (standing L limit h) k }
     ensures first { (L : Check S) (limit : ℕ) (h k : List Event) → Legal L limit (h ++ k) → Legal L limit h }
     ensures rest { (L : Check S) (limit : ℕ) (h k : List Event) → Legal L limit (h ++ k) → LegalFrom L (standing L limit h) k }
-    ensures whole { (L : Check S) (limit : ℕ) (h k : List Event) → Legal L limit h → LegalFrom L (standing L limit h) k → Legal L limit (h ++ k) }
+    ensures whole { (L : Check S) (limit : ℕ) (h k : List Event) → Legal L limit h → LegalFrom L (standing L limit h) k →
+        Legal L limit (h ++ k) }
 {}

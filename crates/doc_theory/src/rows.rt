@@ -14,11 +14,14 @@ pub fn answers_are_computed()
     ensures plain { rows.said rows.plain_requests ≡ rows.plain_lines }
     ensures zone { rows.said rows.zone_requests ≡ rows.zone_lines }
     ensures inside { rows.said (rows.zone_requests ++ rows.inside_requests) ≡ rows.zone_lines ++ rows.inside_lines }
-    ensures closing { rows.said (rows.zone_requests ++ rows.inside_requests ++ rows.closing_requests) ≡ rows.zone_lines ++ rows.inside_lines ++ rows.closing_lines }
+    ensures closing { rows.said (rows.zone_requests ++ rows.inside_requests ++ rows.closing_requests) ≡ rows.zone_lines
+        ++ rows.inside_lines ++ rows.closing_lines }
     ensures tail { rows.said (rows.zone_requests ++ rows.tail_requests) ≡ rows.zone_lines ++ rows.tail_lines }
     ensures twice { rows.said rows.twice_requests ≡ rows.twice_lines }
-    ensures again { rows.said (rows.zone_requests ++ rows.inside_requests ++ rows.again_requests) ≡ rows.zone_lines ++ rows.inside_lines ++ rows.again_lines }
-    ensures closed { rows.said (rows.zone_requests ++ rows.inside_requests ++ rows.closed_requests) ≡ rows.zone_lines ++ rows.inside_lines ++ rows.closed_lines }
+    ensures again { rows.said (rows.zone_requests ++ rows.inside_requests ++ rows.again_requests) ≡ rows.zone_lines
+        ++ rows.inside_lines ++ rows.again_lines }
+    ensures closed { rows.said (rows.zone_requests ++ rows.inside_requests ++ rows.closed_requests) ≡ rows.zone_lines
+        ++ rows.inside_lines ++ rows.closed_lines }
     ensures refused { rows.said rows.refused_requests ≡ rows.refused_lines }
     ensures limited { rows.limited_lines ≡ rows.between (rows.plus 2 0 19 ∷ rows.plus 3 20 39 ∷ rows.refusal (exn.TooMany 40) ∷ []) }
     ensures chosen { rows.chosen_lines ≡ rows.between (rows.plus 2 0 19 ∷ []) }

@@ -17,7 +17,8 @@ pub fn documents_are_lines()
     ensures tip { (d : Document) → lines.tip (shape d) ≡ tip d }
     ensures outcome { (d : Document) → told_as (edits.outcome (shape d)) ≡ outcome d }
     ensures lost { (d e : Document) → edits.lost (shape d) (shape e) ≡ lost d e }
-    ensures added { (d : Document) (offset : ℕ) (x : Sentence) → Sound d → IfAdded (λ e. shape e ≡ put x.kind d.next (shape d)) (attempt d offset x) }
+    ensures added { (d : Document) (offset : ℕ) (x : Sentence) → Sound d → IfAdded (λ e. shape e ≡ put x.kind d.next (shape d))
+        (attempt d offset x) }
     ensures removed { (d : Document) (i : ℕ) → edits.removed i (shape d) ≡ shape_edited (remove d i) }
     ensures cancelled { (tag is : List ℕ) (d : Document) → CancelsAs tag (cancel_all tag is d) (edits.cancelled is (shape d)) }
 {}

@@ -4,3 +4,4 @@ pub mod Placed
 pub mod Words
 pub mod Removals
 pub mod Flat
+pub mod Before

@@ -13,3 +13,6 @@ returns-clause-removed g c = flat.remove_ruled
 
 pub returns-clause-everywhere : goal.returns-clause-everywhere
 returns-clause-everywhere g c = ruled.standing_read_back
+
+pub returns-clause-in_two : goal.returns-clause-in_two
+returns-clause-in_two g c = flat.in_two
