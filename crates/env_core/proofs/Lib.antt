@@ -1,4 +1,0 @@
-pub mod Layered
-pub mod Looking
-pub mod Stacked
-pub mod Pushed
