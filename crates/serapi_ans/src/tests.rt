@@ -65,12 +65,12 @@ fn each_answer_has_its_text(rt: HostRuntime) -> Result<(), Fail> {
     check(&rt, Line::Ack(tag()?), "(Answer 7 Ack)\n");
     check(
         &rt,
-        Line::Completed(text(alloc, "")?),
+        Line::Completed(SharedBytes::from_slice(alloc, b"")?),
         "(Answer \"\" Completed)\n",
     );
     check(
         &rt,
-        Line::OutOfMemory(text(alloc, "a b")?),
+        Line::OutOfMemory(SharedBytes::from_slice(alloc, b"a b")?),
         "(Answer \"a b\" OutOfMemory)\n",
     );
     check(
