@@ -239,7 +239,7 @@ bad_text input.BadNumber = Word (codes "BadNumber")
 abbrev pub answer : {State : Type 0} → Check State → Document → Request → Cut → Answer
 answer L d (Do t) cut =
     let a : Answer = perform L d t.tag t.command cut in answered a.document (Ack t.tag ∷ a.lines ++ last_lines t.tag t.command cut)
-answer L d (Bad b) cut = answered d (BadInput b.place (bad_text b.kind) b.position ∷ [])
+answer L d (Bad b) cut = answered d (BadInput b.number (bad_text b.kind) b.offset ∷ [])
 
 -- how many steps a command has: sentences added, ids treated, entries told
 abbrev pub steps : {State : Type 0} → Check State → Document → Command → ℕ

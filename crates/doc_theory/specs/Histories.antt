@@ -255,7 +255,7 @@ IsGoing over = ⊥
 -- a bad item knows its number
 abbrev pub IsNumbered : ℕ → Request → Type 0
 IsNumbered n (Do t) = Unit {0}
-IsNumbered n (Bad b) = b.place ≡ n
+IsNumbered n (Bad b) = b.number ≡ n
 
 -- a cut command has done no more than its steps; Quit and a bad item are never cut
 abbrev pub CommandMayBe : {State : Type 0} → Check State → Document → Command → Cut → Type 0

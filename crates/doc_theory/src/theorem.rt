@@ -64,5 +64,6 @@ pub fn joined_at_the_end<S>()
         (chosen (λ j. is_wrong j.verdict) (judged L d)) }
     ensures texts { (L : Check S) → Laws L → (limit : ℕ) (h : List Event) → Legal L limit (h ++ (join_answered ∷ []))
         → (t : Told) → Member t (map noted_of (judged L (standing L limit h).document))
-        → Member t (noted L (standing L limit h).document) ⊎ ((r : Row S) × (Member r (standing L limit h).table.rows × Member t (checked L r.work))) }
+        → Member t (noted L (standing L limit h).document)
+        ⊎ ((r : Row S) × (Member r (standing L limit h).table.rows × Member t (checked L r.work))) }
 {}

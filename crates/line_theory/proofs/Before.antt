@@ -25,64 +25,9 @@ use Rattle.std.proofs.Common.{
 }
 use Rattle.line_theory.specs.Lists.{has, Distinct, last_or, before_in}
 use Rattle.line_theory.specs.Shapes.{Item, lone, block, End, closed, proof, Focus, last, zone}
-use Rattle.line_theory.specs.Lines.{
-  Closing,
-  Line,
-  empty,
-  items_ids,
-  item_ids,
-  end_ids,
-  front_of,
-  back_of,
-  ids,
-  before,
-  Split,
-  found,
-  unfound,
-  after,
-  split,
-  Spot,
-  at_lone,
-  at_lemma,
-  at_inner,
-  at_closer,
-  missing,
-  under,
-  inside,
-  locate,
-  dropped_inside,
-  dropped_open,
-  dropped_at,
-  dropped,
-  zoned_inside,
-  zoned_at,
-  zoned_in,
-  zoned,
-}
-use Rattle.line_theory.specs.Edits.{
-  Seat,
-  among,
-  open_lemma,
-  open_inner,
-  behind,
-  nowhere,
-  in_focus,
-  seat_or,
-  seat,
-  Edited,
-  changed,
-  edited_open,
-  line_of,
-  reentered,
-  shortened,
-  removed_at,
-  removed,
-  is_inside,
-  among_before,
-  by_before,
-}
-use Rattle.line_theory.specs.Placed.{IsSpot}
-use Rattle.line_theory.proofs.Lists.{no, test_same, test_back, not_either, absent_parts, absent_join}
+use Rattle.line_theory.specs.Lines.{Closing, Line, empty, items_ids, item_ids, end_ids, front_of, back_of, ids, before, found, unfound, after, split, Spot, at_lone, at_lemma, at_inner, at_closer, missing, under, inside, locate, dropped_inside, dropped_open, dropped_at, dropped, zoned_inside, zoned_at, zoned_in, zoned}
+use Rattle.line_theory.specs.Edits.{Seat, among, open_lemma, open_inner, behind, nowhere, in_focus, seat_or, seat, changed, edited_open, line_of, reentered, shortened, removed_at, removed, is_inside, among_before, by_before}
+use Rattle.line_theory.proofs.Lists.{test_same, test_back, not_either, absent_parts}
 use Rattle.line_theory.proofs.Folded.{items_join}
 use Rattle.line_theory.proofs.Placed.{IsOpen, IsSeat, IsSeated, seated_is}
 use Rattle.line_theory.proofs.Words.{around, behind_lone, behind_lemma, behind_inner, behind_closer, open_inner_part, open_lemma_part}
