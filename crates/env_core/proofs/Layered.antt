@@ -89,7 +89,7 @@ length_onto ds (p ∷ ps) = let e = length_onto (arc_value p.1 ∷ ds) ps in ome
 pub as_many : (ps : List (List ℕ × Arc Decl Global)) → length (onto [] ps) ≡ length ps
 as_many ps = let e = length_onto [] ps in omega (arith, e)
 
--- a declaration that others are put onto keeps its place
+-- a declaration that others are put onto keeps its number
 kept_place : (ds : List Decl) (ps : List (List ℕ × Arc Decl Global)) (i : ℕ) (x : Decl) → IsFromLast ds i x → IsFromLast (onto ds ps) i x
 kept_place ds [] i x h = h
 kept_place ds (p ∷ ps) i x h = kept_place (arc_value p.1 ∷ ds) ps i x (inr h)

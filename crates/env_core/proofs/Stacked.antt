@@ -64,18 +64,18 @@ module _ (ls : List (Arc (List Decl) Global)) (i : ℕ) (l : Arc (List Decl) Glo
       impossible : true ≡ false → ⊥
       impossible h = cc
 
-  -- a declaration by its place
-  pub layer_has : (left place : ℕ) → left + length (stacked [] (take i ls)) ≡ place → (x : Decl) → IsFromLast (arc_value l) left x
-      → IsFromLast (stacked [] ls) place x
-  layer_has left place p x f =
-      subst (λ ds. IsFromLast ds place x) (sym with_layer)
-      (last_behind (stacked [] (drop (i + 1) ls)) (arc_value l ++ stacked [] (take i ls)) place x
+  -- a declaration by its number
+  pub layer_has : (left number : ℕ) → left + length (stacked [] (take i ls)) ≡ number → (x : Decl) → IsFromLast (arc_value l) left x
+      → IsFromLast (stacked [] ls) number x
+  layer_has left number p x f =
+      subst (λ ds. IsFromLast ds number x) (sym with_layer)
+      (last_behind (stacked [] (drop (i + 1) ls)) (arc_value l ++ stacked [] (take i ls)) number x
       (subst (λ m. IsFromLast (arc_value l ++ stacked [] (take i ls)) m x) p
       (last_in_front (arc_value l) (stacked [] (take i ls)) left x f)))
 
-  pub layer_counted : (left place : ℕ) → left + length (stacked [] (take i ls)) ≡ place → length (arc_value l) ≤ left
-      → (left - length (arc_value l)) + length (stacked [] (take (i + 1) ls)) ≡ place
-  layer_counted left place p h =
+  pub layer_counted : (left number : ℕ) → left + length (stacked [] (take i ls)) ≡ number → length (arc_value l) ≤ left
+      → (left - length (arc_value l)) + length (stacked [] (take (i + 1) ls)) ≡ number
+  layer_counted left number p h =
       let q = ap length one_layer_more ∙ length_joint (arc_value l) (stacked [] (take i ls)) in omega (arith, p, q, h)
 
 -- ---- a layer put onto another, one by one

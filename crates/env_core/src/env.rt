@@ -76,12 +76,12 @@ impl Env {
         None
     }
 
-    /// A declaration by its place, from 0 in the order in which they were added.
-    pub fn at(&self, place: u64) -> &Decl
-        requires { place < length self.now }
-        ensures { IsFromLast self.now place result.now }
+    /// A declaration by its number, from 0 in the order in which they were added.
+    pub fn at(&self, number: u64) -> &Decl
+        requires { number < length self.now }
+        ensures { IsFromLast self.now number result.now }
     {
-        let mut left = place;
+        let mut left = number;
         for layer in &self.layers {
             let here = layer.len() as u64;
             if left < here {
@@ -143,7 +143,7 @@ fn gathered(alloc: Global, layers: &[Arc<Layer>], newest: &mut Layer) -> Result<
     Ok(kept)
 }
 
-/// Puts a layer behind the first so many, in place of the others.
+/// Puts a layer behind the first so many, in number of the others.
 fn put_behind(layers: &mut Vec<Arc<Layer>>, kept: usize, layer: Arc<Layer>) -> Result<(), NoMemory>
     requires { kept ≤ length layers.old.items }
     ensures ok { OnOk result (layers.new.items ≡ take kept layers.old.items ++ layer ∷ []) }

@@ -73,8 +73,8 @@ impl Layer {
         requires { AreApart (declarations (newer.now ++ self.old)) }
         ensures { OnOk result (self.new ≡ newer.now ++ self.old) }
     {
-        for place in 0..newer.len() {
-            self.push(newer.at(place))?;
+        for number in 0..newer.len() {
+            self.push(newer.at(number))?;
         }
         Ok(())
     }
@@ -92,11 +92,11 @@ impl Layer {
 
     /// The declaration with so many older ones.
     #[tactic(auto, using(crate::proofs::Looking::places))]
-    pub fn at(&self, place: usize) -> &Arc<Decl>
-        requires { place < length self.now }
-        ensures { IsFromLast self.now place (arc_value result.now) }
+    pub fn at(&self, number: usize) -> &Arc<Decl>
+        requires { number < length self.now }
+        ensures { IsFromLast self.now number (arc_value result.now) }
     {
-        match self.by_name.get_index(place) {
+        match self.by_name.get_index(number) {
             Some((_, decl)) => decl,
             None => unreachable!(),
         }
