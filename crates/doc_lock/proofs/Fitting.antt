@@ -3,20 +3,24 @@ use Rattle.std.proofs.Common.{◌≡◌, ◌≢◌, ◌⊎◌, ℕ, ◌+◌, ◌
 use Rattle.atomic_table.specs.Table.{State}
 use Rattle.doc_lock.specs.declared.view.Folded.{Folded}
 use Rattle.doc_lock.specs.declared.view.View.{View}
-use Rattle.doc_lock.specs.Lists.{Begins, Each, only}
+use Rattle.base_core.specs.Lists.{Begins}
+use Rattle.doc_lock.specs.Lists.{Each, only}
 use Rattle.doc_lock.specs.Kept.{EachLive, SomeLive, IsHome, IsOut, IsBeginning, Kept}
 use Rattle.doc_lock.proofs.Lists.{each_map}
 
 module _ {E : Type 0} (author : E → ℕ) where
   -- a seat that was joined into this one
   abbrev pub Joined : List E → ℕ → (ℕ → ℕ) → ℕ → ℕ → Folded E → Type 0
-  Joined log made owner seat number p = (owner p.number ≡ seat) × (p.number < made) × (p.number ≢ number) × (only author p.number log ≡ p.mine) × Begins p.seen log
+  Joined log made owner seat number p = (owner p.number ≡ seat) × (p.number < made) × (p.number ≢ number)
+      × (only author p.number log ≡ p.mine) × Begins p.seen log
 
   -- it is what the rule says of it, sentence by sentence
-  together : (log : List E) (made : ℕ) (owner : ℕ → ℕ) (seat number : ℕ) (ps : List (Folded E)) → Each (λ p. owner p.number ≡ seat) ps → Each (λ p. p.number < made) ps → Each (λ p. p.number ≢ number) ps
+  together : (log : List E) (made : ℕ) (owner : ℕ → ℕ) (seat number : ℕ) (ps : List (Folded E)) → Each (λ p. owner p.number ≡ seat) ps
+      → Each (λ p. p.number < made) ps → Each (λ p. p.number ≢ number) ps
       → Each (λ p. only author p.number log ≡ p.mine) ps → Each (λ p. Begins p.seen log) ps → Each (Joined log made owner seat number) ps
   together log made owner seat number [] a b c d e = tt
-  together log made owner seat number (p ∷ ps) a b c d e = ((a.0, b.0, c.0, d.0, e.0), together log made owner seat number ps a.1 b.1 c.1 d.1 e.1)
+  together log made owner seat number (p ∷ ps) a b c d e =
+      ((a.0, b.0, c.0, d.0, e.0), together log made owner seat number ps a.1 b.1 c.1 d.1 e.1)
 
 module _ {E O : Type 0} (author : E → ℕ) where
   -- what the rule says of one seat
@@ -64,7 +68,8 @@ module _ {S E O : Type 0} (list : S → List E) (author : E → ℕ) (origin : S
       below = r.numbered j d at live;
       begins = (r.seen j d at live).0;
       own = (r.own j d at live).0;
-      joined = together author r.log r.made r.owner j d.number d.joined (r.owned j d at live).1 (r.joined j d at live) (r.apart j d at live) (r.own j d at live).1 (r.seen j d at live).1;
+      joined = together author r.log r.made r.owner j d.number d.joined (r.owned j d at live).1 (r.joined j d at live)
+          (r.apart j d at live) (r.own j d at live).1 (r.seen j d at live).1;
       based = r.based j d at live;
       holder = r.holder j d at live;
     };
@@ -84,11 +89,25 @@ module _ {S E O : Type 0} (list : S → List E) (author : E → ℕ) (origin : S
     first = f.first;
     named = f.named;
     numbered = λ j d at live. (f.each j d at live).below;
-    joined = λ j d at live. each_map (Joined author f.log f.made f.owner j d.number) (λ p. p.number < f.made) (λ p h. h.1) d.joined (f.each j d at live).joined;
+    joined = λ j d at live. each_map (Joined author f.log f.made f.owner j d.number) (λ p. p.number < f.made) (λ p h. h.1) d.joined
+        (f.each j d at live).joined;
     based = λ j d at live. (f.each j d at live).based;
     alone = f.alone;
-    owned = λ j d at live. ((f.each j d at live).here, each_map (Joined author f.log f.made f.owner j d.number) (λ p. f.owner p.number ≡ j) (λ p h. h.0) d.joined (f.each j d at live).joined);
-    apart = λ j d at live. each_map (Joined author f.log f.made f.owner j d.number) (λ p. p.number ≢ d.number) (λ p h. h.2) d.joined (f.each j d at live).joined;
-    seen = λ j d at live. ((f.each j d at live).begins, each_map (Joined author f.log f.made f.owner j d.number) (λ p. Begins p.seen f.log) (λ p h. h.4) d.joined (f.each j d at live).joined);
-    own = λ j d at live. ((f.each j d at live).own, each_map (Joined author f.log f.made f.owner j d.number) (λ p. only author p.number f.log ≡ p.mine) (λ p h. h.3) d.joined (f.each j d at live).joined);
+    owned = λ j d at live. (
+      (f.each j d at live).here,
+      each_map (Joined author f.log f.made f.owner j d.number) (λ p. f.owner p.number ≡ j) (λ p h. h.0) d.joined
+          (f.each j d at live).joined,
+    );
+    apart = λ j d at live. each_map (Joined author f.log f.made f.owner j d.number) (λ p. p.number ≢ d.number) (λ p h. h.2) d.joined
+        (f.each j d at live).joined;
+    seen = λ j d at live. (
+      (f.each j d at live).begins,
+      each_map (Joined author f.log f.made f.owner j d.number) (λ p. Begins p.seen f.log) (λ p h. h.4) d.joined
+          (f.each j d at live).joined,
+    );
+    own = λ j d at live. (
+      (f.each j d at live).own,
+      each_map (Joined author f.log f.made f.owner j d.number) (λ p. only author p.number f.log ≡ p.mine) (λ p h. h.3) d.joined
+          (f.each j d at live).joined,
+    );
   }

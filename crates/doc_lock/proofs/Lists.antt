@@ -1,9 +1,11 @@
 -- Lists that grow, and the entries of one author.
-use Rattle.std.proofs.Common.{◌≡◌, ◌≢◌, ℕ, ◌<◌, ◌≤◌, eqb, ltb, if◌then◌else◌, true, false, cond, List, [], ◌∷◌, ◌++◌, length, sym, refl, ap, ◌∙◌, ne_eqb, eq-eqb, append_assoc, arith}
+use Rattle.std.proofs.Common.{◌≡◌, ◌≢◌, ℕ, ◌<◌, ◌≤◌, eqb, ltb, if◌then◌else◌, true, false, cond, List, [], ◌∷◌, ◌++◌, length, sym, refl}
+use Rattle.std.proofs.Common.{ap, ◌∙◌, ne_eqb, eq-eqb, append_assoc, arith}
 use Rattle.std.proofs.lemmas.List.Elements.{filter-append}
 use Rattle.std.proofs.lemmas.List.{append-nil}
 use Rattle.std.specs.Prelude.{filter}
-use Rattle.doc_lock.specs.Lists.{Begins, Each, longer, only, Adds}
+use Rattle.base_core.specs.Lists.{Begins}
+use Rattle.doc_lock.specs.Lists.{Each, longer, only, Adds}
 
 module _ {E : Type 0} where
   pub begins_same : (xs : List E) → Begins xs xs
@@ -51,11 +53,13 @@ module _ {E : Type 0} (author : E → ℕ) where
   pub only_own : (n : ℕ) (more : List E) → Each (λ e. author e ≡ n) more → only author n more ≡ more
   unfolding only
   only_own n [] h = refl
-  only_own n (e ∷ es) h = ap (λ b. cond b (e ∷ filter (λ e. eqb (author e) n) es) (filter (λ e. eqb (author e) n) es)) (eq-eqb (author e) n h.0)
+  only_own n (e ∷ es) h = ap (λ b. cond b (e ∷ filter (λ e. eqb (author e) n) es) (filter (λ e. eqb (author e) n) es))
+      (eq-eqb (author e) n h.0)
       ∙ ap (λ l. e ∷ l) (only_own n es h.1)
 
   pub adds_others : (n a : ℕ) (xs ys : List E) → Adds author a xs ys → n ≢ a → only author n ys ≡ only author n xs
-  adds_others n a xs ys h ne = ap (only author n) h.1 ∙ (only_append n xs h.0 ∙ (ap (λ w. only author n xs ++ w) (only_others n a h.0 h.2 ne) ∙ append-nil (only author n xs)))
+  adds_others n a xs ys h ne = ap (only author n) h.1
+      ∙ (only_append n xs h.0 ∙ (ap (λ w. only author n xs ++ w) (only_others n a h.0 h.2 ne) ∙ append-nil (only author n xs)))
 
   -- an author's own entries grow by just what was added
   pub adds_own : (n : ℕ) (xs ys : List E) (h : Adds author n xs ys) → only author n ys ≡ only author n xs ++ h.0

@@ -1,5 +1,6 @@
 -- The views of the seats when one of them changes, and when one more comes.
-use Rattle.std.proofs.Common.{◌≡◌, ◌≢◌, ◌⊎◌, ℕ, zero, suc, ◌<◌, true, List, [], ◌∷◌, ◌++◌, length, set, sym, refl, ap, ◌∙◌, subst, inl, inr, ⊎_elim, arith}
+use Rattle.std.proofs.Common.{◌≡◌, ◌≢◌, ◌⊎◌, ℕ, zero, suc, ◌<◌, true, List, [], ◌∷◌, ◌++◌, length, set, sym, refl, ap, ◌∙◌, subst, inl}
+use Rattle.std.proofs.Common.{inr, ⊎_elim, arith}
 use mathlib.Core.Logic.{dite}
 use mathlib.Core.Option.{some, some-injective, some-ne-none}
 use native.Mathlib.Decide.{ℕ_discrete}
@@ -10,12 +11,15 @@ use Rattle.doc_lock.specs.Kept.{SomeLive}
 
 module _ {E O : Type 0} where
   -- what holds of the changed view at its place, and of each other one, holds of all
-  pub seats_stay : (K : ℕ → View E O → Type 0) (vs : List (View E O)) (me : ℕ) (w : View E O) → K me w → ((j : ℕ) (d : View E O) → j ≢ me → get_elem? vs j ≡ some d → K j d)
+  pub seats_stay : (K : ℕ → View E O → Type 0) (vs : List (View E O)) (me : ℕ) (w : View E O) → K me w
+      → ((j : ℕ) (d : View E O) → j ≢ me → get_elem? vs j ≡ some d → K j d)
       → (j : ℕ) (d : View E O) → get_elem? (set vs me w) j ≡ some d → K j d
-  seats_stay K vs me w mine others j d e = ⊎_elim (λ (t : (j ≡ me) × (w ≡ d)). subst (λ (x : ℕ × View E O). K x.0 x.1) (λ i. (sym t.0 i, t.1 i)) mine)
+  seats_stay K vs me w mine others j d e = ⊎_elim
+      (λ (t : (j ≡ me) × (w ≡ d)). subst (λ (x : ℕ × View E O). K x.0 x.1) (λ i. (sym t.0 i, t.1 i)) mine)
       (λ (t : (j ≢ me) × (get_elem? vs j ≡ some d)). others j d t.0 t.1) (at_set vs me j w d e)
 
-  pub last_new : (l : List (View E O)) (a b : View E O) (j : ℕ) → get_elem? (l ++ a ∷ []) j ≡ some b → (get_elem? l j ≡ some b) ⊎ ((a ≡ b) × (j ≡ length l))
+  pub last_new : (l : List (View E O)) (a b : View E O) (j : ℕ) → get_elem? (l ++ a ∷ []) j ≡ some b → (get_elem? l j ≡ some b)
+      ⊎ ((a ≡ b) × (j ≡ length l))
   last_new [] a b zero e = inr (some-injective a b e, refl)
   last_new [] a b (suc j) e = absurd (some-ne-none b (sym e))
   last_new (x ∷ xs) a b zero e = inl e
@@ -40,14 +44,28 @@ module _ {E O : Type 0} where
   same_view vs i j v w p q e = some-injective v w (sym p ∙ (ap (get_elem? vs) e ∙ q))
 
   -- a seat of which P holds is still there where the changed view has P if it had it,
-  pub some_stays : (P : View E O → Type 0) (vs : List (View E O)) (id : ℕ) (v w : View E O) → get_elem? vs id ≡ some v → w.live ≡ true → (P v → P w) → SomeLive vs P → SomeLive (set vs id w) P
+  pub some_stays : (P : View E O → Type 0) (vs : List (View E O)) (id : ℕ) (v w : View E O) → get_elem? vs id ≡ some v → w.live ≡ true
+      → (P v → P w) → SomeLive vs P → SomeLive (set vs id w) P
   some_stays P vs id v w at live on a = dite (ℕ_discrete a.seat id)
-      (λ same. record { seat = id; view = w; at = here_set vs id v w at; live = live; has = on (subst P (same_view vs a.seat id a.view v a.at at same) a.has) })
+      (λ same. record {
+        seat = id;
+        view = w;
+        at = here_set vs id v w at;
+        live = live;
+        has = on (subst P (same_view vs a.seat id a.view v a.at at same) a.has);
+      })
       (λ other. record { seat = a.seat; view = a.view; at = set_else vs id a.seat w other ∙ a.at; live = a.live; has = a.has })
 
   -- where P didn't hold of the view that changed,
-  pub some_other : (P : View E O → Type 0) (vs : List (View E O)) (id : ℕ) (v w : View E O) → get_elem? vs id ≡ some v → (P v → ⊥) → SomeLive vs P → SomeLive (set vs id w) P
-  some_other P vs id v w at not a = record { seat = a.seat; view = a.view; at = set_else vs id a.seat w (λ same. not (subst P (same_view vs a.seat id a.view v a.at at same) a.has)) ∙ a.at; live = a.live; has = a.has }
+  pub some_other : (P : View E O → Type 0) (vs : List (View E O)) (id : ℕ) (v w : View E O) → get_elem? vs id ≡ some v → (P v → ⊥)
+      → SomeLive vs P → SomeLive (set vs id w) P
+  some_other P vs id v w at not a = record {
+    seat = a.seat;
+    view = a.view;
+    at = set_else vs id a.seat w (λ same. not (subst P (same_view vs a.seat id a.view v a.at at same) a.has)) ∙ a.at;
+    live = a.live;
+    has = a.has;
+  }
 
   -- and where one view more comes
   pub some_longer : (P : View E O → Type 0) (vs more : List (View E O)) → SomeLive vs P → SomeLive (vs ++ more) P

@@ -1,5 +1,6 @@
 -- A seat is split off, and a seat is joined into another: both keep the rule.
-use Rattle.std.proofs.Common.{◌≡◌, ◌≢◌, ◌⊎◌, ℕ, ◌+◌, ◌<◌, eqb, true, false, true≢false, List, [], ◌∷◌, ◌++◌, length, set, length-set, cond, sym, refl, ap, ◌∙◌, subst, inl, inr, ⊎_elim, arith, eq-eqb, ne_eqb, Option, None}
+use Rattle.std.proofs.Common.{◌≡◌, ◌≢◌, ◌⊎◌, ℕ, ◌+◌, ◌<◌, eqb, true, false, true≢false, List, [], ◌∷◌, ◌++◌, length, set, length-set}
+use Rattle.std.proofs.Common.{cond, sym, refl, ap, ◌∙◌, subst, inl, inr, ⊎_elim, arith, eq-eqb, ne_eqb, Option, None}
 use mathlib.Core.Option.{some}
 use lib.ListN.{get_elem?}
 use Rattle.atomic_table.specs.Table.{State, Splits, Joins}
@@ -27,12 +28,16 @@ module _ {S E O : Type 0} (list : S → List E) (author : E → ℕ) (origin : S
   Fit = Fitting list author origin
 
   pub splits : (id : ℕ) (v : D) → v.live ≡ true → v.number ≡ 0 → v.origin ≢ None → Splits Rule id v (splitting v) (split_off v)
-  splits id v live zeroth begun s k at = let r : Fit s = fitting list author origin s k in let fit = r.each id v at live in let n : ℕ = length s.views in let count : v.made ≡ r.made = counted list author origin s r id v at live zeroth in
+  splits id v live zeroth begun s k at = let r : Fit s = fitting list author origin s k in let fit = r.each id v at live in
+      let n : ℕ = length s.views in let count : v.made ≡ r.made = counted list author origin s r id v at live zeroth in
       let owner : ℕ → ℕ = λ k. cond (eqb k r.made) n (r.owner k) in
       let old : (k : ℕ) → k < r.made → owner k ≡ r.owner k = λ k lt. ap (λ b. cond b n (r.owner k)) (ne_eqb k r.made (λ e. omega arith)) in
       let new : owner r.made ≡ n = ap (λ b. cond b n (r.owner r.made)) (eq-eqb r.made r.made refl) in
-      let w : D = splitting v in let u : D = split_off v in let vs : List D = set s.views id w in let t : St = record { words = s.words; homes = s.homes; views = vs ++ u ∷ [] } in
-      let joined : (j : ℕ) (d : D) → Each (Joined author r.log r.made r.owner j d.number) d.joined → Each (Joined author r.log (r.made + 1) owner j d.number) d.joined = λ j d. each_map (Joined author r.log r.made r.owner j d.number) (Joined author r.log (r.made + 1) owner j d.number)
+      let w : D = splitting v in let u : D = split_off v in let vs : List D = set s.views id w in
+      let t : St = record { words = s.words; homes = s.homes; views = vs ++ u ∷ [] } in
+      let joined : (j : ℕ) (d : D) → Each (Joined author r.log r.made r.owner j d.number) d.joined
+      → Each (Joined author r.log (r.made + 1) owner j d.number) d.joined =
+      λ j d. each_map (Joined author r.log r.made r.owner j d.number) (Joined author r.log (r.made + 1) owner j d.number)
       (λ p h. (old p.number h.1 ∙ h.0, (let lt = h.1 in omega arith), h.2, h.3, h.4)) d.joined in
       kept list author origin t record {
         log = r.log;
@@ -41,16 +46,41 @@ module _ {S E O : Type 0} (list : S → List E) (author : E → ℕ) (origin : S
         base = r.base;
         owner = owner;
         words = r.words;
-        slot = ⊎_elim (λ (h : IsHome list origin s r.log r.base r.flag). inl record { free = h.free; state = h.state; there = h.there; entries = h.entries; based = h.based })
+        slot = ⊎_elim (λ (h : IsHome list origin s r.log r.base r.flag). inl record {
+          free = h.free;
+          state = h.state;
+          there = h.there;
+          entries = h.entries;
+          based = h.based;
+        })
             (λ (q : IsOut s ⊎ IsBeginning s r.log r.base). ⊎_elim
-            (λ (a : IsOut s). inr (inl record { gone = a.gone; holder = some_longer (λ v. v.holds ≡ true) vs (u ∷ []) (some_stays (λ v. v.holds ≡ true) s.views id v w at live (λ h. h) a.holder) }))
+            (λ (a : IsOut s). inr (inl record {
+              gone = a.gone;
+              holder = some_longer (λ v. v.holds ≡ true) vs (u ∷ [])
+                  (some_stays (λ v. v.holds ≡ true) s.views id v w at live (λ h. h) a.holder);
+            }))
             (λ (b : IsBeginning s r.log r.base). absurd (begun (fit.based ∙ b.no_origin))) q) r.slot;
-        first = record { seat = id; view = w; at = at_longer vs (u ∷ []) id w (here_set s.views id v w at); live = live; has = (zeroth, ap (λ (k : ℕ). k + 1) count) };
+        first = record {
+          seat = id;
+          view = w;
+          at = at_longer vs (u ∷ []) id w (here_set s.views id v w at);
+          live = live;
+          has = (zeroth, ap (λ (k : ℕ). k + 1) count);
+        };
         named = each_map (λ e. author e < r.made) (λ e. author e < r.made + 1) (λ e h. omega arith) r.log r.named;
         alone = λ b. absurd (begun (fit.based ∙ b));
         each = λ j d there alive. ⊎_elim
-            (λ (h : get_elem? vs j ≡ some d). seats_stay (λ j d. d.live ≡ true → Fits author r.log (r.made + 1) r.flag r.base owner j d) s.views id w
-            (λ _. record { here = old v.number fit.below ∙ fit.here; below = (let b = fit.below in omega arith); begins = fit.begins; own = fit.own; joined = joined id v fit.joined; based = fit.based; holder = fit.holder })
+            (λ (h : get_elem? vs j ≡ some d). seats_stay (λ j d. d.live ≡ true
+            → Fits author r.log (r.made + 1) r.flag r.base owner j d) s.views id w
+            (λ _. record {
+              here = old v.number fit.below ∙ fit.here;
+              below = (let b = fit.below in omega arith);
+              begins = fit.begins;
+              own = fit.own;
+              joined = joined id v fit.joined;
+              based = fit.based;
+              holder = fit.holder;
+            })
             (λ j d ne there alive. let f = r.each j d there alive in record {
               here = old d.number f.below ∙ f.here;
               below = (let b = f.below in omega arith);
@@ -60,7 +90,8 @@ module _ {S E O : Type 0} (list : S → List E) (author : E → ℕ) (origin : S
               based = f.based;
               holder = f.holder;
             }) j d h alive)
-            (λ (h : (u ≡ d) × (j ≡ length vs)). let e : j ≡ n = h.1 ∙ length-set s.views id w in subst (λ (x : ℕ × D). Fits author r.log (r.made + 1) r.flag r.base owner x.0 x.1) (λ i. (sym e i, h.0 i)) (record {
+            (λ (h : (u ≡ d) × (j ≡ length vs)). let e : j ≡ n = h.1 ∙ length-set s.views id w in
+            subst (λ (x : ℕ × D). Fits author r.log (r.made + 1) r.flag r.base owner x.0 x.1) (λ i. (sym e i, h.0 i)) (record {
               here = ap owner count ∙ new;
               below = omega arith;
               begins = fit.begins;
@@ -72,18 +103,23 @@ module _ {S E O : Type 0} (list : S → List E) (author : E → ℕ) (origin : S
             (last_new vs u d j there);
       }
 
-  pub joins : (id : ℕ) (v : D) (other : ℕ) (w : D) → v.live ≡ true → v.holds ≡ false → w.live ≡ true → w.holds ≡ false → w.number ≢ 0 → Joins Rule id v other w (joining v w) spent
+  pub joins : (id : ℕ) (v : D) (other : ℕ) (w : D) → v.live ≡ true → v.holds ≡ false → w.live ≡ true → w.holds ≡ false → w.number ≢ 0
+      → Joins Rule id v other w (joining v w) spent
   joins id v other w live free alive calm counts s k at apart there' = let r : Fit s = fitting list author origin s k in
       let there : get_elem? s.views other ≡ some w = sym (set_else s.views id other (joining v w) apart) ∙ there' in
-      let fit = r.each id v at live in let fat = r.each other w there alive in let both : D = joining v w in let vs : List D = set s.views id both in
+      let fit = r.each id v at live in let fat = r.each other w there alive in let both : D = joining v w in
+      let vs : List D = set s.views id both in
       let t : St = record { words = s.words; homes = s.homes; views = set vs other spent } in
       let owner : ℕ → ℕ = λ k. cond (eqb (r.owner k) other) id (r.owner k) in
-      let kept_place : (k j : ℕ) → j ≢ other → r.owner k ≡ j → owner k ≡ j = λ k j ne e. ap (λ b. cond b id (r.owner k)) (ne_eqb (r.owner k) other (λ q. ne (sym e ∙ q))) ∙ e in
+      let kept_place : (k j : ℕ) → j ≢ other → r.owner k ≡ j
+      → owner k ≡ j = λ k j ne e. ap (λ b. cond b id (r.owner k)) (ne_eqb (r.owner k) other (λ q. ne (sym e ∙ q))) ∙ e in
       let moved : (k : ℕ) → r.owner k ≡ other → owner k ≡ id = λ k e. ap (λ b. cond b id (r.owner k)) (eq-eqb (r.owner k) other e) in
       let un : id ≢ other = λ e. apart (sym e) in
       let apart_numbers : (k : ℕ) → r.owner k ≡ other → k ≢ v.number = λ k e q. un (sym fit.here ∙ (ap r.owner (sym q) ∙ e)) in
-      let ours = each_map (Joined author r.log r.made r.owner id v.number) (Joined author r.log r.made owner id v.number) (λ p h. (kept_place p.number id un h.0, h.1, h.2, h.3, h.4)) v.joined fit.joined in
-      let theirs = each_map (Joined author r.log r.made r.owner other w.number) (Joined author r.log r.made owner id v.number) (λ p h. (moved p.number h.0, h.1, apart_numbers p.number h.0, h.3, h.4)) w.joined fat.joined in
+      let ours = each_map (Joined author r.log r.made r.owner id v.number) (Joined author r.log r.made owner id v.number)
+      (λ p h. (kept_place p.number id un h.0, h.1, h.2, h.3, h.4)) v.joined fit.joined in
+      let theirs = each_map (Joined author r.log r.made r.owner other w.number) (Joined author r.log r.made owner id v.number)
+      (λ p h. (moved p.number h.0, h.1, apart_numbers p.number h.0, h.3, h.4)) w.joined fat.joined in
       kept list author origin t record {
         log = r.log;
         made = r.made;
@@ -91,26 +127,37 @@ module _ {S E O : Type 0} (list : S → List E) (author : E → ℕ) (origin : S
         base = r.base;
         owner = owner;
         words = r.words;
-        slot = ⊎_elim (λ (h : IsHome list origin s r.log r.base r.flag). inl record { free = h.free; state = h.state; there = h.there; entries = h.entries; based = h.based })
+        slot = ⊎_elim (λ (h : IsHome list origin s r.log r.base r.flag). inl record {
+          free = h.free;
+          state = h.state;
+          there = h.there;
+          entries = h.entries;
+          based = h.based;
+        })
             (λ (q : IsOut s ⊎ IsBeginning s r.log r.base). ⊎_elim
             (λ (a : IsOut s). inr (inl record {
               gone = a.gone;
               holder = some_other (λ v. v.holds ≡ true) vs other w spent there' (λ h. true≢false (sym h ∙ calm))
                   (some_stays (λ v. v.holds ≡ true) s.views id v both at live (λ h. h) a.holder);
             }))
-            (λ (b : IsBeginning s r.log r.base). absurd (apart (one_place s.views other id w v (r.alone b.no_origin).0 there at))) q) r.slot;
+            (λ (b : IsBeginning s r.log r.base). absurd (apart (one_place s.views other id w v (r.alone b.no_origin).0 there at))) q)
+            r.slot;
         first = some_other (λ v. (v.number ≡ 0) × (v.made ≡ r.made)) vs other w spent there' (λ h. counts h.0)
             (some_stays (λ v. (v.number ≡ 0) × (v.made ≡ r.made)) s.views id v both at live (λ h. h) r.first);
         named = r.named;
         alone = λ b. absurd (apart (one_place s.views other id w v (r.alone b).0 there at));
-        each = seats_stay (λ j d. d.live ≡ true → Fits author r.log r.made r.flag r.base owner j d) vs other spent (λ h. absurd (true≢false (sym h)))
+        each = seats_stay (λ j d. d.live ≡ true → Fits author r.log r.made r.flag r.base owner j d) vs other spent
+            (λ h. absurd (true≢false (sym h)))
             (λ j d ne e. seats_stay (λ j d. j ≢ other → d.live ≡ true → Fits author r.log r.made r.flag r.base owner j d) s.views id both
             (λ _ _. record {
               here = kept_place v.number id un fit.here;
               below = fit.below;
               begins = longer_begins v.seen w.seen r.log fit.begins fat.begins;
               own = fit.own;
-              joined = ((moved w.number fat.here, fat.below, apart_numbers w.number fat.here, fat.own, fat.begins), each_append (Joined author r.log r.made owner id v.number) v.joined w.joined ours theirs);
+              joined = (
+                (moved w.number fat.here, fat.below, apart_numbers w.number fat.here, fat.own, fat.begins),
+                each_append (Joined author r.log r.made owner id v.number) v.joined w.joined ours theirs,
+              );
               based = fit.based;
               holder = λ h. absurd (true≢false (sym h ∙ free));
             })
@@ -119,7 +166,8 @@ module _ {S E O : Type 0} (list : S → List E) (author : E → ℕ) (origin : S
               below = f.below;
               begins = f.begins;
               own = f.own;
-              joined = each_map (Joined author r.log r.made r.owner j d.number) (Joined author r.log r.made owner j d.number) (λ p h. (kept_place p.number j ne' h.0, h.1, h.2, h.3, h.4)) d.joined f.joined;
+              joined = each_map (Joined author r.log r.made r.owner j d.number) (Joined author r.log r.made owner j d.number)
+                  (λ p h. (kept_place p.number j ne' h.0, h.1, h.2, h.3, h.4)) d.joined f.joined;
               based = f.based;
               holder = f.holder;
             }) j d e ne);

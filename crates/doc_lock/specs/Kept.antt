@@ -1,11 +1,13 @@
 -- The rule of the lock's table: what stands between any two steps, in whatever order the seats take them.
--- The table has two words and one slot. Word 0 is the flag: 0, or one more than the number of the seat that has the lock. Word 1 is the length of the list. The slot is for the state.
+-- The table has two words and one slot. Word 0 is the flag: 0, or one more than the number of the seat that has the lock. Word 1 is the
+-- length of the list. The slot is for the state.
 use Rattle.std.specs.Prelude.{◌≡◌, ◌≢◌, ◌⊎◌, ℕ, ◌+◌, ◌<◌, true, false, List, [], ◌∷◌, length, Option, Some, None}
 use mathlib.Core.Option.{none, some}
 use lib.ListN.{get_elem?}
 use Rattle.atomic_table.specs.Table.{State}
 use Rattle.doc_lock.specs.declared.view.View.{View}
-use Rattle.doc_lock.specs.Lists.{Begins, Each, only}
+use Rattle.base_core.specs.Lists.{Begins}
+use Rattle.doc_lock.specs.Lists.{Each, only}
 
 module _ {E O : Type 0} where
   -- P of each seat that isn't spent, at its place among the views
@@ -44,8 +46,10 @@ module _ {S E O : Type 0} where
     pub waits : SomeLive s.views (λ v. v.holds ≡ false)
 
 module _ {S E O : Type 0} (list : S → List E) (author : E → ℕ) (origin : S → O) where
+  -- what stands between any two steps
   pub record Kept (s : State (Option S) (View E O)) : Type 0 where
-    -- the list of all entries, how many numbers were made, the flag, the origin (none at the beginning), and of each number the place among the views of the seat to which it belongs
+    -- the list of all entries, how many numbers were made, the flag, the origin (none at the beginning), and of each number the place
+    -- among the views of the seat to which it belongs
     pub log : List E
     pub made : ℕ
     pub flag : ℕ
@@ -69,7 +73,8 @@ module _ {S E O : Type 0} (list : S → List E) (author : E → ℕ) (origin : S
     pub based : EachLive s.views (λ _ v. v.origin ≡ base)
     -- while there is none, seat 0 is the only seat, and the flag is its
     pub alone : base ≡ None → (length s.views ≡ 1) × (flag ≡ 1)
-    -- a seat's number belongs to it, and so does each number joined into it: so different seats have different numbers, of their own and joined
+    -- a seat's number belongs to it, and so does each number joined into it: so different seats have different numbers, of their own
+    -- and joined
     pub owned : EachLive s.views (λ seat v. (owner v.number ≡ seat) × Each (λ p. owner p.number ≡ seat) v.joined)
     -- a seat's own number isn't among those joined into it
     pub apart : EachLive s.views (λ _ v. Each (λ p. p.number ≢ v.number) v.joined)

@@ -1,10 +1,6 @@
 -- Words on lists of entries, each of which names its author by a number.
 use Rattle.std.specs.Prelude.{◌≡◌, ℕ, eqb, ltb, if◌then◌else◌, List, [], ◌∷◌, ◌++◌, length, filter}
 
--- ys begins with xs
-abbrev pub Begins : {E : Type 0} → List E → List E → Type 0
-Begins {E} xs ys = (rest : List E) × (ys ≡ xs ++ rest)
-
 -- P holds of each element
 abbrev pub Each : {X : Type 0} → (X → Type 0) → List X → Type 0
 Each P [] = Unit {0}

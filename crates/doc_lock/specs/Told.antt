@@ -41,6 +41,7 @@ module _ {S E O : Type 0} where
   abbrev pub held_state : Held S E O → S
   held_state h = h.state
 
+  -- the holding with another state
   abbrev pub with_state : Held S E O → S → Held S E O
   with_state h x = record { lock = h.lock; state = x; mark = h.mark }
 
@@ -54,7 +55,20 @@ module _ {S E O : Type 0} where
 module _ {S E O : Type 0} (origin : S → O) where
   -- of a lock over x
   abbrev pub starting : S → View E O
-  starting x = record { number = 0; live = true; holds = false; origin = Some (origin x); seen = []; mine = []; joined = []; tries = 0; found = 0; looks = 0; told = 0; made = 1 }
+  starting x = record {
+    number = 0;
+    live = true;
+    holds = false;
+    origin = Some (origin x);
+    seen = [];
+    mine = [];
+    joined = [];
+    tries = 0;
+    found = 0;
+    looks = 0;
+    told = 0;
+    made = 1;
+  }
 
 -- ---- tries
 
@@ -65,7 +79,8 @@ module _ {S E O : Type 0} (list : S → List E) (author : E → ℕ) (origin : S
 
   -- at least one try, of which the last read 0
   abbrev pub GetsAtLast : View E O → View E O → S → Type 0
-  GetsAtLast v w x = Shows list author origin v x × (v.tries < w.tries) × (let u : View E O = record v { tries = w.tries; found = 0; holds = true; seen = list x } in w ≡ u)
+  GetsAtLast v w x = Shows list author origin v x × (v.tries < w.tries)
+      × (let u : View E O = record v { tries = w.tries; found = 0; holds = true; seen = list x } in w ≡ u)
 
 module _ {E O : Type 0} where
   -- one try, which read another word than 0: nothing else changed
@@ -84,7 +99,8 @@ module _ {S E O : Type 0} (list : S → List E) (author : E → ℕ) (origin : S
 module _ {E O : Type 0} where
   -- at least one look, of which the last read r, which isn't the length given nor less than that of the list seen; nothing else changed
   abbrev pub Rests : View E O → ℕ → View E O → ℕ → Type 0
-  Rests v old w r = (r ≢ old) × (length v.seen ≤ r) × (v.looks < w.looks) × (let u : View E O = record v { looks = w.looks; told = r } in w ≡ u)
+  Rests v old w r = (r ≢ old) × (length v.seen ≤ r) × (v.looks < w.looks)
+      × (let u : View E O = record v { looks = w.looks; told = r } in w ≡ u)
 
 -- ---- the end
 

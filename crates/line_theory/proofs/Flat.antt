@@ -2,7 +2,29 @@
 use Rattle.std.proofs.Common.{◌≡◌, ℕ, List, [], ◌∷◌, ◌++◌, Bool, refl, sym, ap, ◌∙◌, append_assoc, append-nil}
 use Rattle.line_theory.specs.Lists.{Every}
 use Rattle.line_theory.specs.Shapes.{Item, lone, block, End, closed, proof, Focus, last, zone}
-use Rattle.line_theory.specs.Flat.{Role, alone, begins, within, closes, Reading, item_entries, items_entries, end_entries, front_entries, back_entries, Text, blank, push_as, push, read, focus_from, Has, Ruled, RuledEnd, RuledFocus}
+use Rattle.line_theory.specs.Flat.{
+  Role,
+  alone,
+  begins,
+  within,
+  closes,
+  Reading,
+  item_entries,
+  items_entries,
+  end_entries,
+  front_entries,
+  back_entries,
+  Text,
+  blank,
+  push_as,
+  push,
+  read,
+  focus_from,
+  Has,
+  Ruled,
+  RuledEnd,
+  RuledFocus,
+}
 use Rattle.line_theory.specs.Lines.{Closing, Line, items_ids, end_ids, front_of, back_of, front, back}
 use Rattle.line_theory.specs.Placed.{by_roles, from_lists, IsRuled}
 
@@ -61,7 +83,8 @@ pub read_focus_back : {E C : Type 0} (R : Reading E C) (a : List (Item E C)) (f 
     → focus_from R (read R blank (items_entries R a ++ front_entries f)).end (back_entries R f) ≡ f
 read_focus_back R a (last o) h k = ap (λ (z : Text _ _). focus_from R z.end []) (read_all R a o h k)
 read_focus_back R a (zone l b c t o) h k =
-    ap (λ (z : Text _ _). focus_from R z.end (R.entry c ∷ (items_entries R t ++ end_entries o))) (read_all R a (proof l b) h (k.0.0, k.0.1.0))
+    ap (λ (z : Text _ _). focus_from R z.end (R.entry c ∷ (items_entries R t ++ end_entries o)))
+    (read_all R a (proof l b) h (k.0.0, k.0.1.0))
     ∙ ap (λ (z : Text _ _). zone l b (R.closer (R.entry c)) z.items z.end) (read_all R t o k.1.0 k.1.1)
     ∙ ap (λ z. zone l b z t o) k.0.1.1.1
 

@@ -1,6 +1,7 @@
-mod Lists
+pub mod Lists
 pub mod Folded
 pub mod Placed
 pub mod Words
-mod Removals
-mod Flat
+pub mod Removals
+pub mod Flat
+pub mod Before

@@ -1,5 +1,30 @@
 -- Lists of numbers: what is in them, and what one change keeps.
-use Rattle.std.proofs.Common.{◌≡◌, ◌⊎◌, inl, inr, ℕ, nat_eq, ◌||◌, List, [], ◌∷◌, ◌++◌, Bool, true, false, not, if◌then◌else◌, refl, sym, ap, subst, ◌∙◌, true≢false, arith, append-nil}
+use Rattle.std.proofs.Common.{
+  ◌≡◌,
+  ◌⊎◌,
+  inl,
+  inr,
+  ℕ,
+  nat_eq,
+  ◌||◌,
+  List,
+  [],
+  ◌∷◌,
+  ◌++◌,
+  Bool,
+  true,
+  false,
+  not,
+  if◌then◌else◌,
+  refl,
+  sym,
+  ap,
+  subst,
+  ◌∙◌,
+  true≢false,
+  arith,
+  append-nil,
+}
 use Rattle.std.proofs.lemmas.Bool.Decides.{nat_tests}
 use Rattle.line_theory.specs.Lists.{has, Distinct, chosen, missing_in, Every, IsCut, IsGrown}
 
@@ -72,11 +97,14 @@ pub distinct_back : (a b : List ℕ) → Distinct (a ++ b) → Distinct b
 distinct_back [] b h = h
 distinct_back (x ∷ a) b h = distinct_back a b h.1
 
-distinct_less : (p g q : List ℕ) → Distinct (p ++ (g ++ q)) → Distinct (p ++ q)
+pub distinct_less : (p g q : List ℕ) → Distinct (p ++ (g ++ q)) → Distinct (p ++ q)
 distinct_less [] g q h = distinct_back g q h
-distinct_less (x ∷ p) g q h = let r = absent_parts x p (g ++ q) h.0 in (absent_join x p q r.0 (absent_parts x g q r.1).1, distinct_less p g q h.1)
+distinct_less (x ∷ p) g q h = let r = absent_parts x p (g ++ q) h.0 in (
+  absent_join x p q r.0 (absent_parts x g q r.1).1,
+  distinct_less p g q h.1,
+)
 
-distinct_more : (n : ℕ) (p q : List ℕ) → has n (p ++ q) ≡ false → Distinct (p ++ q) → Distinct (p ++ (n ∷ q))
+pub distinct_more : (n : ℕ) (p q : List ℕ) → has n (p ++ q) ≡ false → Distinct (p ++ q) → Distinct (p ++ (n ∷ q))
 distinct_more n [] q e h = (e, h)
 distinct_more n (x ∷ p) q e h =
     let r = absent_parts x p q h.0 in
@@ -87,7 +115,8 @@ pub cut_distinct : (old new : List ℕ) → IsCut old new → Distinct old → D
 cut_distinct old new c h = subst Distinct (sym c.is) (distinct_less c.front c.gone c.back (subst Distinct c.was h))
 
 pub grown_distinct : (n : ℕ) (old new : List ℕ) → IsGrown n old new → has n old ≡ false → Distinct old → Distinct new
-grown_distinct n old new g e h = subst Distinct (sym g.is) (distinct_more n g.front g.back (sym (ap (has n) g.was) ∙ e) (subst Distinct g.was h))
+grown_distinct n old new g e h = subst Distinct (sym g.is) (distinct_more n g.front g.back (sym (ap (has n) g.was) ∙ e)
+    (subst Distinct g.was h))
 
 -- ---- what goes
 
@@ -111,24 +140,33 @@ chosen_all p (x ∷ a) h = ap (λ t. if t then x ∷ chosen p a else chosen p a)
 
 there : (new a : List ℕ) → ((n : ℕ) → has n a ≡ true → has n new ≡ true) → Every (λ n. not (has n new) ≡ false) a
 there new [] f = tt
-there new (x ∷ a) f = (ap not (f x (left_true (nat_eq x x) (has x a) (test_same x))), there new a (λ n h. f n (right_true (nat_eq n x) (has n a) h)))
+there new (x ∷ a) f = (
+  ap not (f x (left_true (nat_eq x x) (has x a) (test_same x))),
+  there new a (λ n h. f n (right_true (nat_eq n x) (has n a) h)),
+)
 
 gone_of : (f g b : List ℕ) → Distinct (f ++ (g ++ b)) → Every (λ n. not (has n (f ++ b)) ≡ true) g
 gone_of f [] b h = tt
-gone_of f (x ∷ g) b h = (ap not (absent_join x f b (front f h) (absent_parts x g b (distinct_back f (x ∷ (g ++ b)) h).0).1), gone_of f g b (distinct_less f (x ∷ []) (g ++ b) h))
+gone_of f (x ∷ g) b h = (
+  ap not (absent_join x f b (front f h) (absent_parts x g b (distinct_back f (x ∷ (g ++ b)) h).0).1),
+  gone_of f g b (distinct_less f (x ∷ []) (g ++ b) h),
+)
   where
     front : (f : List ℕ) → Distinct (f ++ (x ∷ (g ++ b))) → has x f ≡ false
     front [] k = refl
-    front (y ∷ f) k = λ i. test_back y x (not_either (nat_eq y x) (has y (g ++ b)) (absent_parts y f (x ∷ (g ++ b)) k.0).1).0 i || front f k.1 i
+    front (y ∷ f) k = λ i. test_back y x (not_either (nat_eq y x) (has y (g ++ b)) (absent_parts y f (x ∷ (g ++ b)) k.0).1).0 i
+        || front f k.1 i
 
 -- where no number is twice, what isn't there any more is the piece that went
 pub cut_gone : (old new : List ℕ) (c : IsCut old new) → Distinct old → missing_in new old ≡ c.gone
 cut_gone old new c h =
     (λ i. missing_in (c.is i) (c.was i))
     ∙ chosen_join test c.front (c.gone ++ c.back)
-    ∙ ap (λ z. z ++ chosen test (c.gone ++ c.back)) (chosen_none test c.front (there (c.front ++ c.back) c.front (λ n k. has_left n c.front c.back k)))
+    ∙ ap (λ z. z ++ chosen test (c.gone ++ c.back))
+    (chosen_none test c.front (there (c.front ++ c.back) c.front (λ n k. has_left n c.front c.back k)))
     ∙ chosen_join test c.gone c.back
-    ∙ (λ i. chosen_all test c.gone (gone_of c.front c.gone c.back (subst Distinct c.was h)) i ++ chosen_none test c.back (there (c.front ++ c.back) c.back (λ n k. has_right n c.front c.back k)) i)
+    ∙ (λ i. chosen_all test c.gone (gone_of c.front c.gone c.back (subst Distinct c.was h)) i ++ chosen_none test c.back
+    (there (c.front ++ c.back) c.back (λ n k. has_right n c.front c.back k)) i)
     ∙ append-nil c.gone
   where
     test : ℕ → Bool

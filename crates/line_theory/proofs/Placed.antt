@@ -2,7 +2,29 @@
 use Rattle.std.proofs.Common.{◌≡◌, ℕ, nat_eq, ◌||◌, List, [], ◌∷◌, ◌++◌, Bool, true, false, if◌then◌else◌, refl, sym, ap, ◌∙◌}
 use Rattle.line_theory.specs.Lists.{has}
 use Rattle.line_theory.specs.Shapes.{Item, lone, block, closed, proof, Focus, last, zone}
-use Rattle.line_theory.specs.Lines.{Closing, Line, item_ids, items_ids, end_ids, front_of, back_of, Split, found, unfound, after, split, Spot, at_lone, at_lemma, at_inner, at_closer, missing, under, inside, locate}
+use Rattle.line_theory.specs.Lines.{
+  Closing,
+  Line,
+  item_ids,
+  items_ids,
+  end_ids,
+  front_of,
+  back_of,
+  Split,
+  found,
+  unfound,
+  after,
+  split,
+  Spot,
+  at_lone,
+  at_lemma,
+  at_inner,
+  at_closer,
+  missing,
+  under,
+  inside,
+  locate,
+}
 use Rattle.line_theory.specs.Edits.{Seat, among, open_lemma, open_inner, behind, nowhere, in_inside, in_proof, in_tail, in_focus}
 use Rattle.line_theory.specs.Placed.{IsSpot, IsKept}
 use Rattle.line_theory.proofs.Lists.{test_equal, absent_join}
@@ -84,8 +106,10 @@ in_proof_is i a g l b other o f h = go (nat_eq i l) refl (split i b) (split_is i
 
 in_focus_is : (i : ℕ) (a : List (Item ℕ Closing)) (g : Focus ℕ Closing) → IsSeat i a g (in_focus i g)
 in_focus_is i a (last closed) = (refl, refl)
-in_focus_is i a (last (proof l b)) = in_proof_is i a (last (proof l b)) l b nowhere (refl, refl) (λ x y e o. (o.0, o.1 ∙ e)) (λ n. (n, refl))
-in_focus_is i a (zone l b c t o) = in_proof_is i a (zone l b c t o) l b (in_tail i c t o) (refl, refl) (λ x y e o. (o.0, o.1 ∙ e)) (λ n. go n (has i (c.id ∷ (items_ids t ++ end_ids o))) refl)
+in_focus_is i a (last (proof l b)) = in_proof_is i a (last (proof l b)) l b nowhere (refl, refl) (λ x y e o. (o.0, o.1 ∙ e))
+    (λ n. (n, refl))
+in_focus_is i a (zone l b c t o) = in_proof_is i a (zone l b c t o) l b (in_tail i c t o) (refl, refl)
+    (λ x y e o. (o.0, o.1 ∙ e)) (λ n. go n (has i (c.id ∷ (items_ids t ++ end_ids o))) refl)
   where
     go : has i (l ∷ b) ≡ false → (r : Bool) → has i (c.id ∷ (items_ids t ++ end_ids o)) ≡ r
         → IsSeat i a (zone l b c t o) (if r then behind c.id else nowhere)

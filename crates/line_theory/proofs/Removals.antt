@@ -1,14 +1,97 @@
 -- What an edit and a removal make of the flat list, and when each is answered.
-use Rattle.std.proofs.Common.{◌≡◌, ℕ, nat_eq, ◌||◌, List, [], ◌∷◌, ◌++◌, Bool, true, false, if◌then◌else◌, refl, sym, ap, subst, ◌∙◌, append-nil}
+use Rattle.std.proofs.Common.{
+  ◌≡◌,
+  ℕ,
+  nat_eq,
+  ◌||◌,
+  List,
+  [],
+  ◌∷◌,
+  ◌++◌,
+  Bool,
+  true,
+  false,
+  if◌then◌else◌,
+  refl,
+  sym,
+  ap,
+  subst,
+  ◌∙◌,
+  append-nil,
+}
 use Rattle.line_theory.specs.Lists.{has, Distinct, IsCut}
 use Rattle.line_theory.specs.Shapes.{Item, lone, block, closed, proof, Focus, last, zone}
-use Rattle.line_theory.specs.Lines.{Closing, Line, empty, items_ids, item_ids, end_ids, front_of, back_of, front, back, ids, Spot, at_lone, at_lemma, at_inner, at_closer, missing, locate, dropped, zoned, OpensAt, OpensIn, DropsIn, Drops}
-use Rattle.line_theory.specs.Edits.{Seat, among, open_lemma, open_inner, behind, nowhere, in_focus, seat_or, seat, Edited, changed, zone_open, unknown, IfChanged, takes_zone, edited_among, edited_open, edited_at, edited, line_of, reentered, shortened, removed_at, removed, cancel_step, cancelled, Cancelled}
+use Rattle.line_theory.specs.Lines.{
+  Closing,
+  Line,
+  empty,
+  items_ids,
+  item_ids,
+  end_ids,
+  front_of,
+  back_of,
+  front,
+  back,
+  ids,
+  Spot,
+  at_lone,
+  at_lemma,
+  at_inner,
+  at_closer,
+  missing,
+  locate,
+  dropped,
+  zoned,
+  OpensAt,
+  OpensIn,
+  DropsIn,
+  Drops,
+}
+use Rattle.line_theory.specs.Edits.{
+  Seat,
+  among,
+  open_lemma,
+  open_inner,
+  behind,
+  nowhere,
+  in_focus,
+  seat_or,
+  seat,
+  Edited,
+  changed,
+  zone_open,
+  unknown,
+  IfChanged,
+  takes_zone,
+  edited_among,
+  edited_open,
+  edited_at,
+  edited,
+  line_of,
+  reentered,
+  shortened,
+  removed_at,
+  removed,
+  cancel_step,
+  cancelled,
+  Cancelled,
+}
 use Rattle.line_theory.specs.Placed.{IsSpot, IsCutBehind, IsCutFrom, IsKept, ByPlace}
 use Rattle.line_theory.proofs.Lists.{no, test_same, has_left, has_right, left_true, right_true, absent_join, cut_distinct}
 use Rattle.line_theory.proofs.Folded.{items_join}
 use Rattle.line_theory.proofs.Placed.{IsOpen, IsSeat, IsSeated, seated_is}
-use Rattle.line_theory.proofs.Words.{around, dropped_behind, zoned_behind, behind_lone, behind_lemma, behind_inner, behind_closer, zone_inner, open_inner_part, open_lemma_part}
+use Rattle.line_theory.proofs.Words.{
+  around,
+  dropped_behind,
+  zoned_behind,
+  behind_lone,
+  behind_lemma,
+  behind_inner,
+  behind_closer,
+  zone_inner,
+  open_inner_part,
+  open_lemma_part,
+}
 
 -- ---- an id that is found is there
 
@@ -33,8 +116,10 @@ has_within i l f k = right_true (nat_eq i l) (has i (f ++ (i ∷ k))) (has_here 
 spot_has : (i : ℕ) (xs : List (Item ℕ Closing)) (s : Spot) → IsSpot i xs s → IsFound s → has i (items_ids xs) ≡ true
 spot_has i xs (at_lone a t) h k = has_item i xs a t (lone i) h (left_true (nat_eq i i) false (test_same i))
 spot_has i xs (at_lemma a b c t) h k = has_item i xs a t (block i b c) h (left_true (nat_eq i i) (has i (b ++ (c.id ∷ []))) (test_same i))
-spot_has i xs (at_inner a l f x c t) h k = has_item i xs a t (block l (f ++ (i ∷ x)) c) h (right_true (nat_eq i l) (has i ((f ++ (i ∷ x)) ++ (c.id ∷ []))) (has_left i (f ++ (i ∷ x)) (c.id ∷ []) (has_here i f x)))
-spot_has i xs (at_closer a l b c t) h k = has_item i xs a t (block l b c) h.0 (ap (λ z. nat_eq z l || has z (b ++ (c.id ∷ []))) h.1 ∙ right_true (nat_eq c.id l) (has c.id (b ++ (c.id ∷ []))) (has_here c.id b []))
+spot_has i xs (at_inner a l f x c t) h k = has_item i xs a t (block l (f ++ (i ∷ x)) c) h
+    (right_true (nat_eq i l) (has i ((f ++ (i ∷ x)) ++ (c.id ∷ []))) (has_left i (f ++ (i ∷ x)) (c.id ∷ []) (has_here i f x)))
+spot_has i xs (at_closer a l b c t) h k = has_item i xs a t (block l b c) h.0 (ap (λ z. nat_eq z l || has z (b ++ (c.id ∷ [])))
+    h.1 ∙ right_true (nat_eq c.id l) (has c.id (b ++ (c.id ∷ []))) (has_here c.id b []))
 spot_has i xs missing h k = absurd k
 
 -- the ids of an open block that has an id have it
@@ -75,15 +160,18 @@ open_behind : (i : ℕ) (d : Line) (f : Focus ℕ Closing) (l : ℕ) (b : List �
     → has i (l ∷ b) ≡ true → IsCutBehind i d (edited_open i d f)
 open_behind i d (last closed) l b n e o h = absurd o
 open_behind i d (last (proof m g)) l b n e o h = (dropped_behind i d n (λ k. (
-  in_front i d (has_right i (items_ids d.items) (front_of d.focus) (ap (λ z. has i (front_of z)) e ∙ open_has i l b (last (proof m g)) o h)),
+  in_front i d (has_right i (items_ids d.items) (front_of d.focus) (ap (λ z. has i (front_of z)) e ∙
+      open_has i l b (last (proof m g)) o h)),
   subst (λ z. DropsIn i d.items z) (sym e) tt,
 ))).0
-open_behind i d (zone m g c t x) l b n e o h = zoned_behind i d (subst (λ f. OpensIn i d.items f) (sym e) (open_has i l b (zone m g c t x) o h))
+open_behind i d (zone m g c t x) l b n e o h =
+    zoned_behind i d (subst (λ f. OpensIn i d.items f) (sym e) (open_has i l b (zone m g c t x) o h))
 
 seat_behind : (i : ℕ) (d : Line) (x : Seat) → nat_eq i 1 ≡ false → IsSeat i d.items d.focus x
     → IfChanged (IsCutBehind i d) (edited_at i x d)
 seat_behind i d (among s) n h = absurd h
-seat_behind i d (open_lemma l b) n h = open_behind i d d.focus l b n refl h.0 (left_true (nat_eq i l) (has i b) (ap (λ z. nat_eq i z) (sym h.1) ∙ test_same i))
+seat_behind i d (open_lemma l b) n h = open_behind i d d.focus l b n refl h.0 (left_true (nat_eq i l) (has i b)
+    (ap (λ z. nat_eq i z) (sym h.1) ∙ test_same i))
 seat_behind i d (open_inner l g k) n h = open_behind i d d.focus l (g ++ (i ∷ k)) n refl h (has_within i l g k)
 seat_behind i d (behind c) n h = tt
 seat_behind i d nowhere n h = tt
@@ -249,7 +337,8 @@ none_place i d n h = absent_join i (front d) (back d) (absent_join i (items_ids 
 edited_seat : (i : ℕ) (d : Line) (x : Seat) → has i (items_ids d.items) ≡ false → IsSeat i d.items d.focus x
     → ByPlace i d (edited_at i x d)
 edited_seat i d (among s) n h = absurd h
-edited_seat i d (open_lemma l b) n h = open_place i d l b h.0 (left_true (nat_eq i l) (has i b) (ap (λ z. nat_eq i z) (sym h.1) ∙ test_same i))
+edited_seat i d (open_lemma l b) n h = open_place i d l b h.0 (left_true (nat_eq i l) (has i b) (ap (λ z. nat_eq i z) (sym h.1)
+    ∙ test_same i))
 edited_seat i d (open_inner l f k) n h = open_place i d l (f ++ (i ∷ k)) h (has_within i l f k)
 edited_seat i d (behind c) n h = kept_place i d c n h
 edited_seat i d nowhere n h = none_place i d n h
@@ -257,7 +346,8 @@ edited_seat i d nowhere n h = none_place i d n h
 removed_seat : (i : ℕ) (d : Line) (x : Seat) → has i (items_ids d.items) ≡ false → IsSeat i d.items d.focus x
     → ByPlace i d (removed_at x d)
 removed_seat i d (among s) n h = absurd h
-removed_seat i d (open_lemma l b) n h = open_place i d l b h.0 (left_true (nat_eq i l) (has i b) (ap (λ z. nat_eq i z) (sym h.1) ∙ test_same i))
+removed_seat i d (open_lemma l b) n h = open_place i d l b h.0 (left_true (nat_eq i l) (has i b) (ap (λ z. nat_eq i z) (sym h.1)
+    ∙ test_same i))
 removed_seat i d (open_inner l f k) n h = open_place i d l (f ++ (i ∷ k)) h (has_within i l f k)
 removed_seat i d (behind c) n h = kept_place i d c n h
 removed_seat i d nowhere n h = none_place i d n h

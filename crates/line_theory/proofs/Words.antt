@@ -1,8 +1,75 @@
 -- What each change makes of the flat lists.
-use Rattle.std.proofs.Common.{◌≡◌, ◌⊎◌, inl, inr, ℕ, nat_eq, ◌||◌, List, [], ◌∷◌, ◌++◌, Bool, true, false, if◌then◌else◌, refl, sym, ap, ◌∙◌, append_assoc, append-nil}
+use Rattle.std.proofs.Common.{
+  ◌≡◌,
+  ◌⊎◌,
+  inl,
+  inr,
+  ℕ,
+  nat_eq,
+  ◌||◌,
+  List,
+  [],
+  ◌∷◌,
+  ◌++◌,
+  Bool,
+  true,
+  false,
+  if◌then◌else◌,
+  refl,
+  sym,
+  ap,
+  ◌∙◌,
+  append_assoc,
+  append-nil,
+}
 use Rattle.line_theory.specs.Lists.{has, IsCut}
 use Rattle.line_theory.specs.Shapes.{Item, lone, block, End, closed, proof, Focus, last, zone}
-use Rattle.line_theory.specs.Lines.{Closing, Line, empty, items_ids, item_ids, end_ids, front_of, back_of, front, back, ids, committed_in, committed, AtEnd, InProof, begun, merged, merged_in, refolded, refolded_in, Split, found, unfound, split, Spot, at_lone, at_lemma, at_inner, at_closer, missing, locate, dropped_inside, dropped_open, dropped_at, dropped, zoned_inside, zoned_at, zoned_in, zoned, OpensAt, OpensIn, Opens, DropsIn, Drops}
+use Rattle.line_theory.specs.Lines.{
+  Closing,
+  Line,
+  empty,
+  items_ids,
+  item_ids,
+  end_ids,
+  front_of,
+  back_of,
+  front,
+  back,
+  ids,
+  committed_in,
+  committed,
+  AtEnd,
+  InProof,
+  begun,
+  merged,
+  merged_in,
+  refolded,
+  refolded_in,
+  Split,
+  found,
+  unfound,
+  split,
+  Spot,
+  at_lone,
+  at_lemma,
+  at_inner,
+  at_closer,
+  missing,
+  locate,
+  dropped_inside,
+  dropped_open,
+  dropped_at,
+  dropped,
+  zoned_inside,
+  zoned_at,
+  zoned_in,
+  zoned,
+  OpensAt,
+  OpensIn,
+  Opens,
+  DropsIn,
+  Drops,
+}
 use Rattle.line_theory.specs.Placed.{IsSpot, IsCutBehind}
 use Rattle.line_theory.proofs.Lists.{no, test_equal, has_parts}
 use Rattle.line_theory.proofs.Folded.{items_join}
@@ -146,7 +213,8 @@ in_block i d l b e h = go (nat_eq i l) refl (split i b) (split_is i b)
 -- an id of the line is in its items, or in what its focus has
 pub seated : (i : ℕ) (d : Line) → has i (ids d) ≡ true
     → (has i (items_ids d.items) ≡ true) ⊎ (has i (front_of d.focus ++ back_of d.focus) ≡ true)
-seated i d h = has_parts i (items_ids d.items) (front_of d.focus ++ back_of d.focus) (sym (ap (has i) (append_assoc (items_ids d.items) (front_of d.focus) (back_of d.focus))) ∙ h)
+seated i d h = has_parts i (items_ids d.items) (front_of d.focus ++ back_of d.focus)
+    (sym (ap (has i) (append_assoc (items_ids d.items) (front_of d.focus) (back_of d.focus))) ∙ h)
 
 -- a spot that is none leaves the focus
 at_none : (i : ℕ) (d : Line) (f : Focus ℕ Closing) → d.focus ≡ f
@@ -209,7 +277,8 @@ dropped_behind i d o h = go (nat_eq i 1) o
     cut = dropped_is i d (h o).0 (h o).1 (locate i d.items) (locate_is i d.items)
 
     go : (t : Bool) → t ≡ false
-        → IsCutBehind i d (if t then empty else dropped_at i (locate i d.items) d) × (back (if t then empty else dropped_at i (locate i d.items) d) ≡ [])
+        → IsCutBehind i d (if t then empty else dropped_at i (locate i d.items) d) ×
+        (back (if t then empty else dropped_at i (locate i d.items) d) ≡ [])
     go true e = no (sym e)
     go false e = cut
 

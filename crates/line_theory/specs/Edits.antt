@@ -2,7 +2,29 @@
 use Rattle.std.specs.Prelude.{ℕ, suc, nat_eq, List, [], ◌∷◌, ◌++◌, Option, Some, None, Bool, false, if◌then◌else◌}
 use Rattle.line_theory.specs.Lists.{has, missing_in}
 use Rattle.line_theory.specs.Shapes.{Item, End, closed, proof, Focus, last, zone}
-use Rattle.line_theory.specs.Lines.{Closing, Line, empty, items_ids, end_ids, ids, cursor, tip, Split, found, unfound, split, Spot, at_lone, at_lemma, at_inner, at_closer, missing, locate, dropped, zoned}
+use Rattle.line_theory.specs.Lines.{
+  Closing,
+  Line,
+  empty,
+  items_ids,
+  end_ids,
+  ids,
+  cursor,
+  tip,
+  Split,
+  found,
+  unfound,
+  split,
+  Spot,
+  at_lone,
+  at_lemma,
+  at_inner,
+  at_closer,
+  missing,
+  locate,
+  dropped,
+  zoned,
+}
 
 -- ---- where an id stands
 
@@ -160,3 +182,27 @@ cancel_step i d (changed e) more = put_edit (outcome e) (lost d e) (more e)
 abbrev pub cancelled : List ℕ → Line → Cancelled
 cancelled [] d = none_left d None
 cancelled (i ∷ is) d = cancel_step i d (removed i d) (cancelled is)
+
+-- ---- the same by the predecessor
+
+-- whether an id is inside of a block that takes a zone
+abbrev pub is_inside : Spot → Bool
+is_inside (at_inner a l f k c t) = c.opaque
+is_inside (at_lone a t) = false
+is_inside (at_lemma a b c t) = false
+is_inside (at_closer a l b c t) = false
+is_inside missing = false
+
+-- what removing an id among the items makes of the line, by the id before it
+abbrev pub among_before : ℕ → Spot → Line → Focus ℕ Closing → Line
+among_before p s d (last o) = if is_inside s then zoned p d else dropped p d
+among_before p s d (zone l b c t o) = dropped p d
+
+-- the removal of an id that stands here, by the id before it
+abbrev pub by_before : ℕ → Seat → Line → Edited
+by_before p (among missing) d = unknown
+by_before p (among s) d = changed (among_before p s d d.focus)
+by_before p (open_lemma l b) d = changed (dropped p d)
+by_before p (open_inner l f k) d = changed (edited_open p d d.focus)
+by_before p (behind c) d = zone_open c
+by_before p nowhere d = unknown

@@ -2,7 +2,24 @@
 ghost use Rattle.std.specs.Prelude.{◌≡◌, ◌++◌, ◌∷◌, [], false, nat_eq, ℕ, Bool, List};
 ghost use Rattle.line_theory.specs.Lists.{has, Distinct, IsCut, IsGrown};
 ghost use Rattle.line_theory.specs.Shapes.{Item};
-ghost use Rattle.line_theory.specs.Lines.{Closing, Line, ids, front, back, committed, AtEnd, InProof, begun, merged, refolded, Opens, zoned, Drops, dropped, locate};
+ghost use Rattle.line_theory.specs.Lines.{
+  Closing,
+  Line,
+  ids,
+  front,
+  back,
+  committed,
+  AtEnd,
+  InProof,
+  begun,
+  merged,
+  refolded,
+  Opens,
+  zoned,
+  Drops,
+  dropped,
+  locate,
+};
 ghost use Rattle.line_theory.specs.Flat.{Role};
 ghost use Rattle.line_theory.specs.Placed.{IsSpot, IsCutBehind, by_roles, IsRuled, from_lists};
 

@@ -14,4 +14,4 @@ mod edits;
 pub use changes::{
     a_line_is_two_lists, each_change_is_at_one_place, folding_keeps_the_line, ids_stay_distinct,
 };
-pub use edits::edits_and_removals_cut;
+pub use edits::{a_removal_is_the_edit_before, edits_and_removals_cut};

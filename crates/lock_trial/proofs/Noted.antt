@@ -13,15 +13,22 @@ by e = e.by
 abbrev one_more : (n what : ℕ) (log now : List Note) → now ≡ log ++ note n what ∷ [] → Adds by n log now
 one_more n what log now more = (note n what ∷ [], more, (refl, tt))
 
-pub adds_noted : {A B : Type 0} (r : Result A B) (n what : ℕ) (log now : List Note) → MatchResult r (λ _. now ≡ log ++ note n what ∷ []) (λ _. now ≡ log) → Adds by n log now
+pub adds_noted : {A B : Type 0} (r : Result A B) (n what : ℕ) (log now : List Note)
+    → MatchResult r (λ _. now ≡ log ++ note n what ∷ []) (λ _. now ≡ log) → Adds by n log now
 adds_noted (Ok _) n what log now more = one_more n what log now more
 adds_noted (Err _) n what log now same = ([], same ∙ sym (append-nil log), tt)
 
-pub mine_grows : {A B : Type 0} (r : Result A B) (n what : ℕ) (log now mine mine' : List Note) → only by n log ≡ mine → mine' ≡ only by n now
-    → MatchResult r (λ _. now ≡ log ++ note n what ∷ []) (λ _. now ≡ log) → MatchResult r (λ _. mine' ≡ mine ++ note n what ∷ []) (λ _. mine' ≡ mine)
-mine_grows (Ok _) n what log now mine mine' own is more = is ∙ (adds_own by n log now (one_more n what log now more) ∙ ap (λ l. l ++ note n what ∷ []) own)
+pub mine_grows : {A B : Type 0} (r : Result A B) (n what : ℕ) (log now mine mine' : List Note) → only by n log ≡ mine
+    → mine' ≡ only by n now
+    → MatchResult r (λ _. now ≡ log ++ note n what ∷ []) (λ _. now ≡ log)
+    → MatchResult r (λ _. mine' ≡ mine ++ note n what ∷ []) (λ _. mine' ≡ mine)
+mine_grows (Ok _) n what log now mine mine' own is more = is
+    ∙ (adds_own by n log now (one_more n what log now more) ∙ ap (λ l. l ++ note n what ∷ []) own)
 mine_grows (Err _) n what log now mine mine' own is same = is ∙ (ap (only by n) same ∙ own)
 
 -- a seat that wrote so many notes writes the next
-pub writes_more : (by k n : ℕ) (mine mine' : List Note) → k ≡ by → mine ≡ notes_by by n → mine' ≡ mine ++ note k n ∷ [] → mine' ≡ notes_by by (n + 1)
-writes_more by k n mine mine' same is more = more ∙ (ap (λ (p : List Note × ℕ). p.0 ++ note p.1 n ∷ []) (λ i. (is i, same i)) ∙ sym (map-range_with_len_more (note by) 0 n n (omega arith)))
+pub writes_more : (by k n : ℕ) (mine mine' : List Note) → k ≡ by → mine ≡ notes_by by n → mine' ≡ mine ++ note k n ∷ []
+    → mine' ≡ notes_by by (n + 1)
+writes_more by k n mine mine' same is more = more
+    ∙ (ap (λ (p : List Note × ℕ). p.0 ++ note p.1 n ∷ []) (λ i. (is i, same i))
+    ∙ sym (map-range_with_len_more (note by) 0 n n (omega arith)))

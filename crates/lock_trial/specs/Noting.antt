@@ -11,6 +11,7 @@ use Rattle.lock_trial.specs.declared.notes.Note.{Note}
 use Rattle.lock_trial.specs.declared.notes.Notes.{Notes}
 use Rattle.lock_trial.specs.declared.threads.Writer.{Writer}
 
+-- what a seat wrote
 abbrev pub note : ℕ → ℕ → Note
 note by what = record { by = by; what = what }
 
@@ -39,8 +40,10 @@ module _ {O : Type 0} where
 
   -- the entries of the seat are all of so many notes, or where memory was wanting the first of them
   abbrev pub HasWritten : ℕ → Result (Unit {0}) NoMemory → View Note O → Type 0
-  HasWritten most wrote v = MatchResult wrote (λ _. v.mine ≡ notes_by v.number most) (λ _. (n : ℕ) × (n < most) × (v.mine ≡ notes_by v.number n))
+  HasWritten most wrote v = MatchResult wrote (λ _. v.mine ≡ notes_by v.number most) (λ _. (n : ℕ) × (n < most)
+      × (v.mine ≡ notes_by v.number n))
 
+-- a lock over notes
 abbrev pub Lock : Type 0
 Lock = DocLock Notes Note ℕ
 

@@ -51,7 +51,8 @@ impl Notes {
 
     /// Adds a note. Where memory is wanting there is none more.
     pub fn add(&mut self, by: u32, what: u64) -> Result<(), NoMemory>
-        ensures notes { MatchResult result (λ _. self.new.notes.items ≡ self.old.notes.items ++ note by what ∷ []) (λ _. self.new.notes.items ≡ self.old.notes.items) }
+        ensures notes { MatchResult result (λ _. self.new.notes.items ≡ self.old.notes.items ++ note by what ∷ [])
+            (λ _. self.new.notes.items ≡ self.old.notes.items) }
         ensures day { self.new.day ≡ self.old.day }
     {
         self.notes.push(Note { by, what })?;

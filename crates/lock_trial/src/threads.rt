@@ -114,8 +114,10 @@ fn gather(
     ensures first { IsIdle lock.now 0 seat.new }
     ensures all { Covers (knows seat.new) }
     ensures none { vec_len writers.new ≡ 0 }
-    ensures same { ((knows seat.new).made ≡ (knows seat.old).made) × ((knows seat.new).origin ≡ (knows seat.old).origin) × ((knows seat.new).mine ≡ (knows seat.old).mine) }
-    ensures written { IfOk result (λ _. (n : ℕ) → EachWriter (IsDone n lock.now) writers.old.items → Each (λ p. p.mine ≡ notes_by p.number n) (knows seat.new).joined) }
+    ensures same { ((knows seat.new).made ≡ (knows seat.old).made) × ((knows seat.new).origin ≡ (knows seat.old).origin)
+        × ((knows seat.new).mine ≡ (knows seat.old).mine) }
+    ensures written { IfOk result (λ _. (n : ℕ) → EachWriter (IsDone n lock.now) writers.old.items
+        → Each (λ p. p.mine ≡ notes_by p.number n) (knows seat.new).joined) }
 {
     let mut all = Ok(());
     while let Some(writer) = writers.pop() {

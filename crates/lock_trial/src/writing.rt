@@ -1,7 +1,7 @@
 //! One note, in one holding.
 ghost use Rattle.std.specs.Prelude.{◌≡◌, ◌≢◌, ◌+◌, ◌<◌, [], ◌∷◌, ◌++◌, true, false, MatchResult, MatchOption};
 ghost use Rattle.doc_lock.specs.Told.{IsOf, IsBeside, knows};
-ghost use Rattle.doc_lock.specs.Lists.{Begins};
+ghost use Rattle.base_core.specs.Lists.{Begins};
 ghost use Rattle.lock_trial.specs.Noting.{Keeps, note};
 
 use crate::notes::Notes;
@@ -21,7 +21,8 @@ pub fn write_note<R: Wait>(
     ensures lock { IsBeside seat.old seat.new }
     ensures same { Keeps (knows seat.old) (knows seat.new) }
     ensures held { ((knows seat.old).tries < (knows seat.new).tries) × ((knows seat.new).found ≡ 0) }
-    ensures mine { MatchResult result (λ _. (knows seat.new).mine ≡ (knows seat.old).mine ++ note (knows seat.old).number what ∷ []) (λ _. (knows seat.new).mine ≡ (knows seat.old).mine) }
+    ensures mine { MatchResult result (λ _. (knows seat.new).mine ≡ (knows seat.old).mine ++ note (knows seat.old).number what ∷ [])
+        (λ _. (knows seat.new).mine ≡ (knows seat.old).mine) }
     ensures seen { Begins (knows seat.old).seen (knows seat.new).seen }
 {
     let number = seat.number();
@@ -44,7 +45,9 @@ pub fn try_note(
     ensures same { Keeps (knows seat.old) (knows seat.new) }
     ensures tried { (knows seat.new).tries ≡ (knows seat.old).tries + 1 }
     ensures busy { MatchOption result ((knows seat.new).found ≢ 0) (λ _. (knows seat.new).found ≡ 0) }
-    ensures mine { MatchOption result ((knows seat.new).mine ≡ (knows seat.old).mine) (λ r. MatchResult r (λ _. (knows seat.new).mine ≡ (knows seat.old).mine ++ note (knows seat.old).number what ∷ []) (λ _. (knows seat.new).mine ≡ (knows seat.old).mine)) }
+    ensures mine { MatchOption result ((knows seat.new).mine ≡ (knows seat.old).mine)
+        (λ r. MatchResult r (λ _. (knows seat.new).mine ≡ (knows seat.old).mine ++ note (knows seat.old).number what ∷ [])
+        (λ _. (knows seat.new).mine ≡ (knows seat.old).mine)) }
     ensures seen { Begins (knows seat.old).seen (knows seat.new).seen }
 {
     let number = seat.number();

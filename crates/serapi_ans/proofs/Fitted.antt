@@ -1,5 +1,6 @@
 -- Lines whose texts are of bytes, and their values.
-use Rattle.std.proofs.Common.{◌≡◌, ℕ, ◌+◌, ◌<◌, ◌≤◌, ◌/◌, ◌%◌, ◌&&◌, List, [], ◌∷◌, ◌++◌, map, codes, true, Option, Some, None, refl, ◌∙◌, arith}
+use Rattle.std.proofs.Common.{◌≡◌, ℕ, ◌+◌, ◌<◌, ◌≤◌, ◌/◌, ◌%◌, ◌&&◌, List, [], ◌∷◌, ◌++◌, map, codes, true, Option, Some, None, refl, ◌∙◌}
+use Rattle.std.proofs.Common.{arith}
 use Rattle.std.specs.List.{list_all}
 use Rattle.std.specs.Fmt.{decimal}
 use Rattle.std.proofs.lemmas.Fmt.{decimal_by_steps}
@@ -7,15 +8,19 @@ use Rattle.std.proofs.lemmas.List.Folds.{list_all-append}
 use Rattle.std.proofs.lemmas.Bool.{agree_below_at, and_from}
 use Rattle.sexp_theory.specs.Values.{Value, atom, values, HasBytes, HaveBytes}
 use Rattle.sexp_theory.proofs.AtomTexts.{is_byte, below_all}
-use Rattle.serapi_ans.specs.Lines.{number, pair, triple, list_of, answer_value, range_value, tip_value, added_value, edit_value, string_value, fault_value, exn_value, verdict_value, bad_value, IsOfBytes}
-use Rattle.serapi_ans.specs.Fitting.{IsSmall, AreSmall, FitsTip, FitsEdit, FitsFaults, FitsExn, Fits, IsText, AreTexts, HaveTexts, HasExnTexts, HasTexts, IsLine}
+use Rattle.serapi_ans.specs.Lines.{number, pair, triple, list_of, answer_value, range_value, tip_value, added_value, edit_value}
+use Rattle.serapi_ans.specs.Lines.{string_value, fault_value, exn_value, verdict_value, bad_value, IsOfBytes}
+use Rattle.serapi_ans.specs.Fitting.{IsSmall, AreSmall, FitsTip, FitsEdit, FitsFaults, FitsExn, Fits, IsText, AreTexts, HaveTexts}
+use Rattle.serapi_ans.specs.Fitting.{HasExnTexts, HasTexts, IsLine}
 use Rattle.serapi_ans.specs.declared.line.Line.{Line}
-use Rattle.serapi_ans.specs.declared.line.Line.TheVariants.{Ack, Added, Canceled, EditAt, ObjList, Joined, CoqExn, OutOfMemory, Completed, Feedback, BadInput}
+use Rattle.serapi_ans.specs.declared.line.Line.TheVariants.{Ack, Added, Canceled, EditAt, ObjList, Joined, CoqExn, OutOfMemory, Completed}
+use Rattle.serapi_ans.specs.declared.line.Line.TheVariants.{Feedback, BadInput}
 use Rattle.serapi_ans.specs.declared.line.EditLine.{EditLine}
 use Rattle.serapi_ans.specs.declared.line.EditLine.TheVariants.{NewTip, Focus}
 use Rattle.serapi_ans.specs.declared.line.BadText.TheVariants.{Word, BadField}
 use Rattle.serapi_ans.specs.declared.line.Exn.{Exn}
-use Rattle.serapi_ans.specs.declared.line.Exn.TheVariants.{Parse, NoOpenProof, ProofOpen, BadCloser, NotTip, NoSuchState, ZoneOpen, TooMany, Check, UnknownName, Unsupported}
+use Rattle.serapi_ans.specs.declared.line.Exn.TheVariants.{Parse, NoOpenProof, ProofOpen, BadCloser, NotTip, NoSuchState, ZoneOpen}
+use Rattle.serapi_ans.specs.declared.line.Exn.TheVariants.{TooMany, Check, UnknownName, Unsupported}
 
 -- ---- numbers
 
@@ -48,7 +53,10 @@ answer_bytes : (tag : List ℕ) (v : Value) → IsText tag → HasBytes v → Ha
 answer_bytes tag v h k = triple_bytes (codes "Answer") (atom tag) v refl h k
 
 range_bytes : (from to : ℕ) → IsSmall from → IsSmall to → HasBytes (range_value from to)
-range_bytes from to h k = (pair_bytes (codes "bp") (number from) refl (number_bytes from h), (pair_bytes (codes "ep") (number to) refl (number_bytes to k), tt))
+range_bytes from to h k = (
+  pair_bytes (codes "bp") (number from) refl (number_bytes from h),
+  (pair_bytes (codes "ep") (number to) refl (number_bytes to k), tt),
+)
 
 tip_bytes : (tip : Option ℕ) → FitsTip tip → HasBytes (tip_value tip)
 tip_bytes None h = below_all (codes "NewTip") refl
@@ -61,7 +69,10 @@ edit_bytes (Focus start stop tip) h = (
   (
     (
       pair_bytes (codes "start") (number start) refl (number_bytes start h.0),
-      (pair_bytes (codes "stop") (number stop) refl (number_bytes stop h.1), (pair_bytes (codes "tip") (number tip) refl (number_bytes tip h.2), tt)),
+      (
+        pair_bytes (codes "stop") (number stop) refl (number_bytes stop h.1),
+        (pair_bytes (codes "tip") (number tip) refl (number_bytes tip h.2), tt),
+      ),
     ),
     tt,
   ),
@@ -82,22 +93,34 @@ faults_bytes ((id, text) ∷ fs) h k = ((number_bytes id h.0, (k.0, tt)), faults
 exn_bytes : (exn : Exn) → FitsExn exn → HasExnTexts exn → HasBytes (exn_value exn)
 exn_bytes (Parse offset) h k = pair_bytes (codes "Parse") (number offset) refl (number_bytes offset h)
 exn_bytes (NoOpenProof offset) h k = pair_bytes (codes "NoOpenProof") (number offset) refl (number_bytes offset h)
-exn_bytes (ProofOpen offset lemma) h k = triple_bytes (codes "ProofOpen") (number offset) (number lemma) refl (number_bytes offset h.0) (number_bytes lemma h.1)
-exn_bytes (BadCloser offset closer) h k = triple_bytes (codes "BadCloser") (number offset) (number closer) refl (number_bytes offset h.0) (number_bytes closer h.1)
+exn_bytes (ProofOpen offset lemma) h k = triple_bytes (codes "ProofOpen") (number offset) (number lemma) refl (number_bytes offset h.0)
+    (number_bytes lemma h.1)
+exn_bytes (BadCloser offset closer) h k = triple_bytes (codes "BadCloser") (number offset) (number closer) refl (number_bytes offset h.0)
+    (number_bytes closer h.1)
 exn_bytes (NotTip id) h k = pair_bytes (codes "NotTip") (number id) refl (number_bytes id h)
 exn_bytes (NoSuchState id) h k = pair_bytes (codes "NoSuchState") (number id) refl (number_bytes id h)
-exn_bytes (ZoneOpen id closer) h k = triple_bytes (codes "ZoneOpen") (number id) (number closer) refl (number_bytes id h.0) (number_bytes closer h.1)
+exn_bytes (ZoneOpen id closer) h k = triple_bytes (codes "ZoneOpen") (number id) (number closer) refl (number_bytes id h.0)
+    (number_bytes closer h.1)
 exn_bytes (TooMany offset) h k = pair_bytes (codes "TooMany") (number offset) refl (number_bytes offset h)
 exn_bytes (Check id text) h k = triple_bytes (codes "Check") (number id) (atom text) refl (number_bytes id h) k
 exn_bytes (UnknownName name) h k = pair_bytes (codes "UnknownName") (atom name) refl k
 exn_bytes Unsupported h k = below_all (codes "Unsupported") refl
 
 message_bytes : (text : List ℕ) → IsText text → HasBytes (verdict_value (Some text))
-message_bytes text h =
-    (below_all (codes "Message") refl, ((pair_bytes (codes "level") (atom (codes "Error")) refl (below_all (codes "Error") refl), (pair_bytes (codes "text") (atom text) refl h, tt)), tt))
+message_bytes text h = (
+  below_all (codes "Message") refl,
+  (
+    (
+      pair_bytes (codes "level") (atom (codes "Error")) refl (below_all (codes "Error") refl),
+      (pair_bytes (codes "text") (atom text) refl h, tt),
+    ),
+    tt,
+  ),
+)
 
 feedback_bytes : (id route : ℕ) (v : Value) → IsSmall id → IsSmall route → HasBytes v
-    → HaveBytes (values (pair (codes "doc_id") (number 0) ∷ pair (codes "span_id") (number id) ∷ pair (codes "route") (number route) ∷ pair (codes "contents") v ∷ []))
+    → HaveBytes (values (pair (codes "doc_id") (number 0) ∷ pair (codes "span_id") (number id) ∷ pair (codes "route") (number route) ∷
+    pair (codes "contents") v ∷ []))
 feedback_bytes id route v h k w = (
   pair_bytes (codes "doc_id") (number 0) refl (number_bytes 0 (omega arith)),
   (
@@ -106,8 +129,9 @@ feedback_bytes id route v h k w = (
   ),
 )
 
-bad_bytes : (place position : ℕ) (v : Value) → IsSmall place → IsSmall position → HasBytes v → HaveBytes (values (atom (codes "BadInput") ∷ number place ∷ v ∷ number position ∷ []))
-bad_bytes place position v h k w = (below_all (codes "BadInput") refl, (number_bytes place h, (w, (number_bytes position k, tt))))
+bad_bytes : (item offset : ℕ) (v : Value) → IsSmall item → IsSmall offset → HasBytes v
+    → HaveBytes (values (atom (codes "BadInput") ∷ number item ∷ v ∷ number offset ∷ []))
+bad_bytes item offset v h k w = (below_all (codes "BadInput") refl, (number_bytes item h, (w, (number_bytes offset k, tt))))
 
 -- ---- lines
 
@@ -116,22 +140,32 @@ of_bytes (Ack tag) h k = answer_bytes tag (atom (codes "Ack")) k (below_all (cod
 of_bytes (Added tag id from to tip) h k =
     answer_bytes tag (added_value id from to tip) k
     (below_all (codes "Added") refl, (number_bytes id h.0, (range_bytes from to h.1 h.2, (tip_bytes tip h.3, tt))))
-of_bytes (Canceled tag ids) h k = answer_bytes tag (pair (codes "Canceled") (list_of (map number ids))) k (pair_bytes (codes "Canceled") (list_of (map number ids)) refl (numbers_bytes ids h))
-of_bytes (EditAt tag edit) h k = answer_bytes tag (pair (codes "EditAt") (edit_value edit)) k (pair_bytes (codes "EditAt") (edit_value edit) refl (edit_bytes edit h))
+of_bytes (Canceled tag ids) h k = answer_bytes tag (pair (codes "Canceled") (list_of (map number ids))) k
+    (pair_bytes (codes "Canceled") (list_of (map number ids)) refl (numbers_bytes ids h))
+of_bytes (EditAt tag edit) h k = answer_bytes tag (pair (codes "EditAt") (edit_value edit)) k
+    (pair_bytes (codes "EditAt") (edit_value edit) refl (edit_bytes edit h))
 of_bytes (ObjList tag texts) h k =
-    answer_bytes tag (pair (codes "ObjList") (list_of (map string_value texts))) k.0 (pair_bytes (codes "ObjList") (list_of (map string_value texts)) refl (strings_bytes texts k.1))
+    answer_bytes tag (pair (codes "ObjList") (list_of (map string_value texts))) k.0
+    (pair_bytes (codes "ObjList") (list_of (map string_value texts)) refl (strings_bytes texts k.1))
 of_bytes (Joined tag sentences faults) h k =
     let all : Value = list_of (map fault_value faults) in
     answer_bytes tag (triple (codes "Joined") (pair (codes "sentences") (number sentences)) (pair (codes "faults") all)) k.0
     (triple_bytes (codes "Joined") (pair (codes "sentences") (number sentences)) (pair (codes "faults") all) refl
-    (pair_bytes (codes "sentences") (number sentences) refl (number_bytes sentences h.0)) (pair_bytes (codes "faults") all refl (faults_bytes faults h.1 k.1)))
-of_bytes (CoqExn tag exn) h k = answer_bytes tag (pair (codes "CoqExn") (exn_value exn)) k.0 (pair_bytes (codes "CoqExn") (exn_value exn) refl (exn_bytes exn h k.1))
+    (pair_bytes (codes "sentences") (number sentences) refl (number_bytes sentences h.0))
+    (pair_bytes (codes "faults") all refl (faults_bytes faults h.1 k.1)))
+of_bytes (CoqExn tag exn) h k = answer_bytes tag (pair (codes "CoqExn") (exn_value exn)) k.0
+    (pair_bytes (codes "CoqExn") (exn_value exn) refl (exn_bytes exn h k.1))
 of_bytes (OutOfMemory tag) h k = answer_bytes tag (atom (codes "OutOfMemory")) k (below_all (codes "OutOfMemory") refl)
 of_bytes (Completed tag) h k = answer_bytes tag (atom (codes "Completed")) k (below_all (codes "Completed") refl)
-of_bytes (Feedback id route None) h k = (below_all (codes "Feedback") refl, (feedback_bytes id route (atom (codes "Processed")) h.0 h.1 (below_all (codes "Processed") refl), tt))
-of_bytes (Feedback id route (Some text)) h k = (below_all (codes "Feedback") refl, (feedback_bytes id route (verdict_value (Some text)) h.0 h.1 (message_bytes text k), tt))
-of_bytes (BadInput place (Word word) position) h k = bad_bytes place position (atom word) h.0 h.1 k
-of_bytes (BadInput place (BadField name) position) h k = bad_bytes place position (bad_value (BadField name)) h.0 h.1 (pair_bytes (codes "BadField") (atom name) refl k)
+of_bytes (Feedback id route None) h k = (
+  below_all (codes "Feedback") refl,
+  (feedback_bytes id route (atom (codes "Processed")) h.0 h.1 (below_all (codes "Processed") refl), tt),
+)
+of_bytes (Feedback id route (Some text)) h k =
+    (below_all (codes "Feedback") refl, (feedback_bytes id route (verdict_value (Some text)) h.0 h.1 (message_bytes text k), tt))
+of_bytes (BadInput item (Word word) offset) h k = bad_bytes item offset (atom word) h.0 h.1 k
+of_bytes (BadInput item (BadField name) offset) h k =
+    bad_bytes item offset (bad_value (BadField name)) h.0 h.1 (pair_bytes (codes "BadField") (atom name) refl k)
 
 pub is_line : (line : Line) → Fits line → HasTexts line → IsLine line
 is_line line h k = (of_bytes line h k, h)

@@ -1,22 +1,27 @@
 -- A line, found again from its value.
-use Rattle.std.proofs.Common.{◌≡◌, ℕ, ◌<◌, ◌≤◌, ◌^◌, ◌+◌, ◌*◌, ◌/◌, ◌%◌, ◌&&◌, nat_lt, arith, List, [], ◌∷◌, ◌++◌, map, true, Option, Some, None, if◌then◌else◌, refl, sym, ap, ◌∙◌}
+use Rattle.std.proofs.Common.{◌≡◌, ℕ, ◌<◌, ◌≤◌, ◌^◌, ◌+◌, ◌*◌, ◌/◌, ◌%◌, ◌&&◌, nat_lt, arith, List, [], ◌∷◌, ◌++◌, map, true, Option}
+use Rattle.std.proofs.Common.{Some, None, if◌then◌else◌, refl, sym, ap, ◌∙◌}
 use Rattle.std.specs.Prelude.{nat_eq}
 use Rattle.std.specs.Char.{digit_value}
 use Rattle.std.proofs.lemmas.Fmt.{decimal_by_steps}
 use Rattle.std.proofs.lemmas.Bool.{agree_below_at, lt-ltb, eqb-true}
 use Rattle.sexp_theory.specs.Values.{values}
-use Rattle.serapi_ans.specs.Lines.{number, string_value, fault_value, exn_value, bad_value, edit_value, verdict_value, tip_value, line_value}
+use Rattle.serapi_ans.specs.Lines.{number, string_value, fault_value, exn_value, bad_value, edit_value, verdict_value, tip_value}
+use Rattle.serapi_ans.specs.Lines.{line_value}
 use Rattle.sexp_theory.specs.Signs.{is_decimal}
-use Rattle.serapi_ans.specs.Reading.{with_digit, number_from, number_in, numbers_in, strings_in, faults_in, tip_of, edit_of, exn_of, verdict_of, kind_of, line_of}
+use Rattle.serapi_ans.specs.ReadBack.{with_digit, number_from, number_in, numbers_in, strings_in, faults_in, tip_of, edit_of, exn_of}
+use Rattle.serapi_ans.specs.ReadBack.{verdict_of, kind_of, line_of}
 use Rattle.serapi_ans.specs.Fitting.{IsSmall, AreSmall, FitsTip, FitsEdit, FitsFaults, FitsExn, Fits}
 use Rattle.serapi_ans.specs.declared.line.Line.{Line}
-use Rattle.serapi_ans.specs.declared.line.Line.TheVariants.{Ack, Added, Canceled, EditAt, ObjList, Joined, CoqExn, OutOfMemory, Completed, Feedback, BadInput}
+use Rattle.serapi_ans.specs.declared.line.Line.TheVariants.{Ack, Added, Canceled, EditAt, ObjList, Joined, CoqExn, OutOfMemory, Completed}
+use Rattle.serapi_ans.specs.declared.line.Line.TheVariants.{Feedback, BadInput}
 use Rattle.serapi_ans.specs.declared.line.EditLine.{EditLine}
 use Rattle.serapi_ans.specs.declared.line.EditLine.TheVariants.{NewTip, Focus}
 use Rattle.serapi_ans.specs.declared.line.BadText.{BadText}
 use Rattle.serapi_ans.specs.declared.line.BadText.TheVariants.{Word, BadField}
 use Rattle.serapi_ans.specs.declared.line.Exn.{Exn}
-use Rattle.serapi_ans.specs.declared.line.Exn.TheVariants.{Parse, NoOpenProof, ProofOpen, BadCloser, NotTip, NoSuchState, ZoneOpen, TooMany, Check, UnknownName, Unsupported}
+use Rattle.serapi_ans.specs.declared.line.Exn.TheVariants.{Parse, NoOpenProof, ProofOpen, BadCloser, NotTip, NoSuchState, ZoneOpen}
+use Rattle.serapi_ans.specs.declared.line.Exn.TheVariants.{TooMany, Check, UnknownName, Unsupported}
 
 -- ---- what is found again
 
@@ -59,7 +64,8 @@ strings_back (t ∷ ts) = ap (λ us. t ∷ us) (strings_back ts)
 
 faults_back : (fs : List (ℕ × List ℕ)) → FitsFaults fs → faults_in (values (map fault_value fs)) ≡ fs
 faults_back [] h = refl
-faults_back ((n, t) ∷ fs) h = ap (λ m. (m, t) ∷ faults_in (values (map fault_value fs))) (number_back n h.0) ∙ ap (λ gs. (n, t) ∷ gs) (faults_back fs h.1)
+faults_back ((n, t) ∷ fs) h = ap (λ m. (m, t) ∷ faults_in (values (map fault_value fs))) (number_back n h.0)
+    ∙ ap (λ gs. (n, t) ∷ gs) (faults_back fs h.1)
 
 tip_back : (tip : Option ℕ) → FitsTip tip → tip_of (tip_value tip) ≡ tip
 tip_back None h = refl
@@ -110,9 +116,9 @@ line_back (Completed tag) h = refl
 line_back (Feedback id route verdict) h =
     ap (λ n. Feedback n (number_in (number route)) (verdict_of (verdict_value verdict))) (number_back id h.0)
     ∙ ap (λ n. Feedback id n (verdict_of (verdict_value verdict))) (number_back route h.1) ∙ ap (Feedback id route) (verdict_back verdict)
-line_back (BadInput place kind position) h =
-    ap (λ n. BadInput n (kind_of (bad_value kind)) (number_in (number position))) (number_back place h.0)
-    ∙ ap (λ k. BadInput place k (number_in (number position))) (kind_back kind) ∙ ap (BadInput place kind) (number_back position h.1)
+line_back (BadInput item kind offset) h =
+    ap (λ n. BadInput n (kind_of (bad_value kind)) (number_in (number offset))) (number_back item h.0)
+    ∙ ap (λ k. BadInput item k (number_in (number offset))) (kind_back kind) ∙ ap (BadInput item kind) (number_back offset h.1)
 
 -- no two lines have one value
 pub same_line : (l m : Line) → Fits l → Fits m → line_value l ≡ line_value m → l ≡ m

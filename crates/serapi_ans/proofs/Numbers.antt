@@ -1,5 +1,6 @@
 -- Numbers in decimal.
-use Rattle.std.proofs.Common.{◌≡◌, ℕ, ◌+◌, ◌^◌, ◌<◌, ◌≤◌, ◌%◌, ◌/◌, ◌&&◌, ◌++◌, List, [], ◌∷◌, true, length, length-append, refl, sym, ◌∙◌, arith}
+use Rattle.std.proofs.Common.{◌≡◌, ℕ, ◌+◌, ◌^◌, ◌<◌, ◌≤◌, ◌%◌, ◌/◌, ◌&&◌, ◌++◌, List, [], ◌∷◌, true, length, length-append, refl, sym}
+use Rattle.std.proofs.Common.{◌∙◌, arith}
 use Rattle.std.specs.Fmt.{decimal}
 use Rattle.std.specs.List.{list_all}
 use Rattle.std.proofs.lemmas.Fmt.{decimal_by_steps}

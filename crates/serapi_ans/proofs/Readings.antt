@@ -1,5 +1,6 @@
 -- What a text is read as.
-use Rattle.std.proofs.Common.{◌≡◌, ◌≢◌, ℕ, ◌+◌, ◌≤◌, ◌↔◌, IsTrue, Bool, false, max, length, length-append, List, [], ◌∷◌, ◌++◌, map, codes, Some, None, refl, sym, ap, ◌∙◌, arith}
+use Rattle.std.proofs.Common.{◌≡◌, ◌≢◌, ℕ, ◌+◌, ◌≤◌, ◌↔◌, IsTrue, Bool, false, max, length, length-append, List, [], ◌∷◌, ◌++◌, map}
+use Rattle.std.proofs.Common.{codes, Some, None, refl, sym, ap, ◌∙◌, arith}
 use Rattle.std.proofs.lemmas.Bool.{leb-true, false≢true}
 use Rattle.sexp_theory.specs.Values.{Value, list, Values, values, nesting, nesting_of_all}
 use Rattle.sexp_theory.specs.Writing.{text}
@@ -7,15 +8,17 @@ use Rattle.sexp_theory.specs.Written.{IsTextOf}
 use Rattle.sexp_theory.proofs.Texts.{one_text}
 use Rattle.serapi_ans.specs.Lines.{number, pair, list_of, answer_value, string_value, fault_value, exn_value, line_value}
 use Rattle.serapi_ans.specs.Fitting.{IsLine}
-use Rattle.serapi_ans.specs.Reading.{line_of}
+use Rattle.serapi_ans.specs.ReadBack.{line_of}
 use Rattle.serapi_ans.proofs.Inverse.{line_back, same_line}
 use Rattle.serapi_ans.proofs.Told.{heads}
 use Rattle.serapi_ans.specs.declared.line.Line.{Line}
-use Rattle.serapi_ans.specs.declared.line.Line.TheVariants.{Ack, Added, Canceled, EditAt, ObjList, Joined, CoqExn, OutOfMemory, Completed, Feedback, BadInput}
+use Rattle.serapi_ans.specs.declared.line.Line.TheVariants.{Ack, Added, Canceled, EditAt, ObjList, Joined, CoqExn, OutOfMemory, Completed}
+use Rattle.serapi_ans.specs.declared.line.Line.TheVariants.{Feedback, BadInput}
 use Rattle.serapi_ans.specs.declared.line.EditLine.TheVariants.{NewTip, Focus}
 use Rattle.serapi_ans.specs.declared.line.BadText.TheVariants.{Word, BadField}
 use Rattle.serapi_ans.specs.declared.line.Exn.{Exn}
-use Rattle.serapi_ans.specs.declared.line.Exn.TheVariants.{Parse, NoOpenProof, ProofOpen, BadCloser, NotTip, NoSuchState, ZoneOpen, TooMany, Check, UnknownName, Unsupported}
+use Rattle.serapi_ans.specs.declared.line.Exn.TheVariants.{Parse, NoOpenProof, ProofOpen, BadCloser, NotTip, NoSuchState, ZoneOpen}
+use Rattle.serapi_ans.specs.declared.line.Exn.TheVariants.{TooMany, Check, UnknownName, Unsupported}
 
 -- ---- how deep lines are
 
@@ -70,35 +73,49 @@ shallow (Ack tag) = leb-true _ _ refl
 shallow (Added tag id from to None) = leb-true _ _ refl
 shallow (Added tag id from to (Some tip)) = leb-true _ _ refl
 shallow (Canceled tag ids) =
-    answer_deep tag (pair (codes "Canceled") (list_of (map number ids))) (omega (arith, pair_deep (codes "Canceled") (list_of (map number ids)) 1 (list_deep (values (map number ids)) 0 (numbers_flat ids))))
+    answer_deep tag (pair (codes "Canceled") (list_of (map number ids)))
+    (omega (
+      arith,
+      pair_deep (codes "Canceled") (list_of (map number ids)) 1
+          (list_deep (values (map number ids)) 0 (numbers_flat ids)),
+    ))
 shallow (EditAt tag (NewTip id)) = leb-true _ _ refl
 shallow (EditAt tag (Focus start stop tip)) = leb-true _ _ refl
 shallow (ObjList tag texts) =
-    answer_deep tag (pair (codes "ObjList") (list_of (map string_value texts))) (omega (arith, pair_deep (codes "ObjList") (list_of (map string_value texts)) 2 (list_deep (values (map string_value texts)) 1 (strings_flat texts))))
+    answer_deep tag (pair (codes "ObjList") (list_of (map string_value texts)))
+    (omega (
+      arith,
+      pair_deep (codes "ObjList") (list_of (map string_value texts)) 2
+          (list_deep (values (map string_value texts)) 1 (strings_flat texts)),
+    ))
 shallow (Joined tag n faults) =
     let inner = pair (codes "faults") (list_of (map fault_value faults)) in
-    let deep : nesting inner ≤ 3 = pair_deep (codes "faults") (list_of (map fault_value faults)) 2 (list_deep (values (map fault_value faults)) 1 (faults_flat faults)) in
+    let deep : nesting inner ≤ 3 = pair_deep (codes "faults") (list_of (map fault_value faults)) 2
+    (list_deep (values (map fault_value faults)) 1 (faults_flat faults)) in
     let one : nesting (line_value (Joined tag n faults)) ≡ max 0 (max 0 (max (max 0 (max 1 (max (nesting inner) 0)) + 1) 0)) + 1 = refl in
     omega (arith, one, deep)
-shallow (CoqExn tag exn) = answer_deep tag (pair (codes "CoqExn") (exn_value exn)) (omega (arith, pair_deep (codes "CoqExn") (exn_value exn) 1 (exn_flat exn)))
+shallow (CoqExn tag exn) = answer_deep tag (pair (codes "CoqExn") (exn_value exn))
+    (omega (arith, pair_deep (codes "CoqExn") (exn_value exn) 1 (exn_flat exn)))
 shallow (OutOfMemory tag) = leb-true _ _ refl
 shallow (Completed tag) = leb-true _ _ refl
 shallow (Feedback id route None) = leb-true _ _ refl
 shallow (Feedback id route (Some t)) = leb-true _ _ refl
-shallow (BadInput place (Word w) position) = leb-true _ _ refl
-shallow (BadInput place (BadField name) position) = leb-true _ _ refl
+shallow (BadInput item (Word w) offset) = leb-true _ _ refl
+shallow (BadInput item (BadField name) offset) = leb-true _ _ refl
 
 -- ---- the answer
 
 pub no_value : (bytes : List ℕ) → ((v : Value) → IsTextOf bytes v → ⊥) → (l : Line) → IsLine l → text (line_value l) ≢ bytes
 no_value bytes none l h e = none (line_value l) (record { of_bytes = h.0; shallow = shallow l; written = e })
 
-pub other_line : (bytes : List ℕ) (v : Value) (found : Line) → IsTextOf bytes v → found ≡ line_of v → (text (line_value found) ≡ bytes → ⊥) → (l : Line) → IsLine l → text (line_value l) ≢ bytes
+pub other_line : (bytes : List ℕ) (v : Value) (found : Line) → IsTextOf bytes v → found ≡ line_of v
+    → (text (line_value found) ≡ bytes → ⊥) → (l : Line) → IsLine l → text (line_value l) ≢ bytes
 other_line bytes v found w f unlike l h e =
     let same : line_value l ≡ v = one_text (line_value l) v h.0 w.of_bytes (e ∙ sym w.written) in
     unlike (ap (λ m. text (line_value m)) (f ∙ ap line_of (sym same) ∙ line_back l h.1) ∙ e)
 
-pub only_line : (bytes : List ℕ) (read line : Line) → text (line_value read) ≡ bytes → IsLine read → IsLine line → text (line_value line) ≡ bytes → read ≡ line
+pub only_line : (bytes : List ℕ) (read line : Line) → text (line_value read) ≡ bytes → IsLine read → IsLine line
+    → text (line_value line) ≡ bytes → read ≡ line
 only_line bytes read line e h k f = same_line read line h.1 k.1 (one_text (line_value read) (line_value line) h.0 k.0 (e ∙ sym f))
 
 -- ---- the byte 10 at the end
@@ -116,7 +133,8 @@ before_end (x ∷ xs) (y ∷ ys) e =
     ap (λ z. z ∷ xs) parts.0 ∙ ap (λ zs. y ∷ zs) (before_end xs ys parts.1)
 
 -- whether the front is the same, where the last byte is 10
-pub with_end : (line front bytes : List ℕ) (last : ℕ) (same : Bool) → line ≡ front ++ last ∷ [] → last ≡ 10 → (IsTrue same ↔ (front ≡ bytes)) → IsTrue same ↔ (line ≡ bytes ++ 10 ∷ [])
+pub with_end : (line front bytes : List ℕ) (last : ℕ) (same : Bool) → line ≡ front ++ last ∷ [] → last ≡ 10
+    → (IsTrue same ↔ (front ≡ bytes)) → IsTrue same ↔ (line ≡ bytes ++ 10 ∷ [])
 with_end line front bytes last same e f w =
     let ends : line ≡ front ++ 10 ∷ [] = e ∙ ap (λ b. front ++ b ∷ []) f in
     ((λ t. ends ∙ ap (λ xs. xs ++ 10 ∷ []) (w.0 t)), (λ g. w.1 (before_end front bytes (sym ends ∙ g))))

@@ -1,5 +1,6 @@
 -- Lines, found again from their texts.
-use Rattle.std.proofs.Common.{◌≡◌, ℕ, List, [], ◌∷◌, ◌++◌, ◌&&◌, Bool, true, false, subst, length, length-append, append_assoc, refl, sym, ap, ◌∙◌, arith}
+use Rattle.std.proofs.Common.{◌≡◌, ℕ, List, [], ◌∷◌, ◌++◌, ◌&&◌, Bool, true, false, subst, length, length-append, append_assoc, refl, sym}
+use Rattle.std.proofs.Common.{ap, ◌∙◌, arith}
 use Rattle.std.proofs.lemmas.Bool.{false≢true}
 use Rattle.std.specs.List.{list_all}
 use Rattle.std.proofs.lemmas.List.Sums.{list_all-from_AllPass}
@@ -21,24 +22,29 @@ pub heads : (x y : ℕ) (xs ys : List ℕ) → x ∷ xs ≡ y ∷ ys → (x ≡ 
 heads x y xs ys e = (cc, cc)
 
 -- what stands before the first byte 10, and what stands behind it
-same_front : (xs ys behind more : List ℕ) → list_all is_of_text xs ≡ true → list_all is_of_text ys ≡ true → xs ++ 10 ∷ behind ≡ ys ++ 10 ∷ more → (xs ≡ ys) × (behind ≡ more)
+same_front : (xs ys behind more : List ℕ) → list_all is_of_text xs ≡ true → list_all is_of_text ys ≡ true
+    → xs ++ 10 ∷ behind ≡ ys ++ 10 ∷ more → (xs ≡ ys) × (behind ≡ more)
 same_front [] [] behind more p q e = (refl, (heads 10 10 behind more e).1)
 same_front [] (y ∷ ys) behind more p q e = absurd (no_line_end y ys (heads 10 y behind (ys ++ 10 ∷ more) e).0 q)
 same_front (x ∷ xs) [] behind more p q e = absurd (no_line_end x xs (sym (heads x 10 (xs ++ 10 ∷ behind) more e).0) p)
 same_front (x ∷ xs) (y ∷ ys) behind more p q e =
     let parts = heads x y (xs ++ 10 ∷ behind) (ys ++ 10 ∷ more) e in
-    let rest = same_front xs ys behind more (and_second (is_of_text x) (list_all is_of_text xs) p) (and_second (is_of_text y) (list_all is_of_text ys) q) parts.1 in
+    let rest = same_front xs ys behind more (and_second (is_of_text x) (list_all is_of_text xs) p)
+    (and_second (is_of_text y) (list_all is_of_text ys) q) parts.1 in
     (ap (λ z. z ∷ xs) parts.0 ∙ ap (λ zs. y ∷ zs) rest.0, rest.1)
 
-pub one_line : (l m : Line) (behind more : List ℕ) → IsOfBytes l → IsOfBytes m → line_text l ++ behind ≡ line_text m ++ more → (line_value l ≡ line_value m) × (behind ≡ more)
+pub one_line : (l m : Line) (behind more : List ℕ) → IsOfBytes l → IsOfBytes m → line_text l ++ behind ≡ line_text m ++ more
+    → (line_value l ≡ line_value m) × (behind ≡ more)
 one_line l m behind more h k e =
     let v = line_value l in
     let w = line_value m in
-    let both = same_front (text v) (text w) behind more (list_all-from_AllPass is_of_text (text v) (text_bytes v h)) (list_all-from_AllPass is_of_text (text w) (text_bytes w k))
+    let both = same_front (text v) (text w) behind more (list_all-from_AllPass is_of_text (text v) (text_bytes v h))
+    (list_all-from_AllPass is_of_text (text w) (text_bytes w k))
     (sym (append_assoc (text v) (10 ∷ []) behind) ∙ e ∙ append_assoc (text w) (10 ∷ []) more) in
     (one_text v w h k both.0, both.1)
 
-pub same_lines : (l m : Line) (behind more : List ℕ) → IsLine l → IsLine m → line_text l ++ behind ≡ line_text m ++ more → (l ≡ m) × (behind ≡ more)
+pub same_lines : (l m : Line) (behind more : List ℕ) → IsLine l → IsLine m → line_text l ++ behind ≡ line_text m ++ more → (l ≡ m)
+    × (behind ≡ more)
 same_lines l m behind more h k e =
     let both = one_line l m behind more h.0 k.0 e in
     (same_line l m h.1 k.1 both.0, both.1)

@@ -2,4 +2,4 @@ pub mod Lines
 pub mod Joined
 pub mod Pieces
 pub mod Fitting
-pub mod Reading
+pub mod ReadBack

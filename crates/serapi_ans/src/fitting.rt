@@ -1,5 +1,6 @@
 //! What the type of a line says of its numbers and texts.
-ghost use Rattle.serapi_ans.specs.Fitting.{AreSmall, AreTexts, HaveTexts, Fits, FitsEdit, FitsExn, FitsFaults, FitsTip, HasTexts, HasExnTexts, IsLine, IsSmall, IsText};
+ghost use Rattle.serapi_ans.specs.Fitting.{AreSmall, AreTexts, HaveTexts, Fits, FitsEdit, FitsExn, FitsFaults, FitsTip, HasTexts};
+ghost use Rattle.serapi_ans.specs.Fitting.{HasExnTexts, IsLine, IsSmall, IsText};
 
 use crate::{BadText, EditLine, Exn, Line};
 use base_core::Bytes;
@@ -39,9 +40,9 @@ fn numbers_fit(line: &Line)
             number_fits(*id);
             number_fits(*route);
         }
-        Line::BadInput(place, _, position) => {
-            number_fits(*place);
-            number_fits(*position);
+        Line::BadInput(number, _, offset) => {
+            number_fits(*number);
+            number_fits(*offset);
         }
     }
 }
@@ -118,24 +119,24 @@ fn texts_fit(line: &Line)
     ensures { HasTexts line.now }
 {
     match line {
-        Line::Ack(tag) => text_fits(tag),
-        Line::Added(tag, _, _, _, _) => text_fits(tag),
-        Line::Canceled(tag, _) => text_fits(tag),
-        Line::EditAt(tag, _) => text_fits(tag),
+        Line::Ack(tag) => bytes_fit(tag.as_slice()),
+        Line::Added(tag, _, _, _, _) => bytes_fit(tag.as_slice()),
+        Line::Canceled(tag, _) => bytes_fit(tag.as_slice()),
+        Line::EditAt(tag, _) => bytes_fit(tag.as_slice()),
         Line::ObjList(tag, texts) => {
-            text_fits(tag);
+            bytes_fit(tag.as_slice());
             all_fit(texts.as_slice());
         }
         Line::Joined(tag, _, faults) => {
-            text_fits(tag);
+            bytes_fit(tag.as_slice());
             fault_texts_fit(faults.as_slice());
         }
         Line::CoqExn(tag, exn) => {
-            text_fits(tag);
+            bytes_fit(tag.as_slice());
             exn_texts_fit(exn);
         }
-        Line::OutOfMemory(tag) => text_fits(tag),
-        Line::Completed(tag) => text_fits(tag),
+        Line::OutOfMemory(tag) => bytes_fit(tag.as_slice()),
+        Line::Completed(tag) => bytes_fit(tag.as_slice()),
         Line::Feedback(_, _, None) => {}
         Line::Feedback(_, _, Some(text)) => text_fits(text),
         Line::BadInput(_, BadText::Word(word), _) => text_fits(word),

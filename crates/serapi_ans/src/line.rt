@@ -1,6 +1,6 @@
 //! The lines of output.
 
-use base_core::{Bytes, Ids};
+use base_core::{Bytes, Ids, SharedBytes};
 use sqlite_items::Items;
 
 /// Texts of any bytes.
@@ -9,33 +9,34 @@ pub type Texts = Items<Bytes>;
 /// Ids of sentences, each with the text of its verdict.
 pub type FaultTexts = Items<(u64, Bytes)>;
 
-/// One line of output. A line that answers a command begins with the command's tag. Ids are those of sentences;
-/// offsets are bytes, counted from 0.
+/// One line of output. A line that answers a command begins with the command's tag, whose bytes all lines that answer
+/// it share. Ids are those of sentences; offsets are bytes, counted from 0.
 #[derive(Debug, Drop)]
 pub enum Line {
     /// The command was read.
-    Ack(Bytes),
+    Ack(SharedBytes),
     /// A sentence was added: tag, id, the offsets of its first byte in the text of the Add and of the byte behind
     /// it, and the tip, where the sentence closed a zone.
-    Added(Bytes, u64, u64, u64, Option<u64>),
+    Added(SharedBytes, u64, u64, u64, Option<u64>),
     /// Sentences were removed: tag and ids.
-    Canceled(Bytes, Ids),
+    Canceled(SharedBytes, Ids),
     /// A sentence was reopened: tag and where the cursor stands.
-    EditAt(Bytes, EditLine),
+    EditAt(SharedBytes, EditLine),
     /// What a Query asked for: tag and texts.
-    ObjList(Bytes, Texts),
+    ObjList(SharedBytes, Texts),
     /// The end of a Join: tag, how many sentences there are, and the faults.
-    Joined(Bytes, u64, FaultTexts),
+    Joined(SharedBytes, u64, FaultTexts),
     /// The command ended with a refusal.
-    CoqExn(Bytes, Exn),
+    CoqExn(SharedBytes, Exn),
     /// The command ended for want of memory.
-    OutOfMemory(Bytes),
+    OutOfMemory(SharedBytes),
     /// The last line of a command.
-    Completed(Bytes),
+    Completed(SharedBytes),
     /// The verdict of a sentence: its id, the route (0 for a command's own telling, 1 for a result), and the text
     /// of the verdict where it isn't Good.
     Feedback(u64, u64, Option<Bytes>),
-    /// An item that is no command: its place, why, and the offset of the fault in the whole input.
+    /// An item that is no command: its number among the items, from 0; why; and the offset of the fault in the whole
+    /// input.
     BadInput(u64, BadText, u64),
 }
 

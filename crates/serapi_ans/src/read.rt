@@ -5,7 +5,7 @@ ghost use Rattle.sexp_theory.specs.Writing.{text};
 ghost use Rattle.sexp_core.specs.Sexp.{meaning};
 ghost use Rattle.serapi_ans.specs.Lines.{line_value};
 ghost use Rattle.serapi_ans.specs.Fitting.{IsLine};
-ghost use Rattle.serapi_ans.specs.Reading.{
+ghost use Rattle.serapi_ans.specs.ReadBack.{
   value_in,
   text_in,
   number_from,
@@ -40,7 +40,7 @@ ghost use Rattle.serapi_ans.specs.Reading.{
 };
 
 use crate::{BadText, EditLine, Exn, FaultTexts, Line, Texts, lines_fit, write_line};
-use base_core::{Bytes, Ids, NoMemory};
+use base_core::{Bytes, Ids, NoMemory, SharedBytes};
 use sexp_core::{Sexp, read_text};
 use sqlite_items::Items;
 use std::alloc::Global;
@@ -342,7 +342,7 @@ fn read_kind(alloc: Global, part: Option<&Sexp>) -> Result<BadText, NoMemory>
     }
 }
 
-fn read_plain(tag: Bytes, word: &[u8]) -> Line
+fn read_plain(tag: SharedBytes, word: &[u8]) -> Line
     ensures { result ≡ plain_of tag word.now }
 {
     if word == b"Ack".as_slice() {
@@ -354,7 +354,7 @@ fn read_plain(tag: Bytes, word: &[u8]) -> Line
     }
 }
 
-fn read_answer(alloc: Global, tag: Bytes, part: Option<&Sexp>) -> Result<Line, NoMemory>
+fn read_answer(alloc: Global, tag: SharedBytes, part: Option<&Sexp>) -> Result<Line, NoMemory>
     ensures { IfOk result (λ line. line ≡ answer_of tag (value_in part.entry)) }
 {
     match part {
@@ -363,7 +363,7 @@ fn read_answer(alloc: Global, tag: Bytes, part: Option<&Sexp>) -> Result<Line, N
     }
 }
 
-fn read_list_answer(alloc: Global, tag: Bytes, part: Option<&Sexp>) -> Result<Line, NoMemory>
+fn read_list_answer(alloc: Global, tag: SharedBytes, part: Option<&Sexp>) -> Result<Line, NoMemory>
     ensures { IfOk result (λ line. line ≡ list_answer_of tag (value_in part.entry)) }
 {
     if has_word(part, b"Added") {
@@ -382,7 +382,7 @@ fn read_list_answer(alloc: Global, tag: Bytes, part: Option<&Sexp>) -> Result<Li
     }
 }
 
-fn read_added(tag: Bytes, part: Option<&Sexp>) -> Line
+fn read_added(tag: SharedBytes, part: Option<&Sexp>) -> Line
     ensures { result ≡ added_of tag (value_in part.entry) }
 {
     let range = at2(part);
@@ -400,7 +400,7 @@ fn read_value(alloc: Global, part: Option<&Sexp>) -> Result<Line, NoMemory>
     ensures { IfOk result (λ line. line ≡ line_of (value_in part.entry)) }
 {
     if has_word(part, b"Answer") {
-        let tag = copy_text(alloc, at1(part))?;
+        let tag = SharedBytes::from_slice(alloc, text_in(at1(part)))?;
         read_answer(alloc, tag, at2(part))
     } else if has_word(part, b"Feedback") {
         read_feedback(alloc, at1(part))

@@ -1,7 +1,7 @@
 //! Lines with the texts that they are written as, typed from the table of lines.
 
 use crate::*;
-use base_core::{Bytes, Ids, NoMemory};
+use base_core::{Bytes, Ids, NoMemory, SharedBytes};
 use sqlite_items::Items;
 use std::alloc::Global;
 use std::process::Abort;
@@ -61,16 +61,16 @@ fn faults(alloc: Global, each: &[(u64, &str)]) -> Result<FaultTexts, NoMemory> {
 #[test]
 fn each_answer_has_its_text(rt: HostRuntime) -> Result<(), Fail> {
     let alloc = rt.alloc();
-    let tag = || text(alloc, "7");
+    let tag = || SharedBytes::from_slice(alloc, b"7");
     check(&rt, Line::Ack(tag()?), "(Answer 7 Ack)\n");
     check(
         &rt,
-        Line::Completed(text(alloc, "")?),
+        Line::Completed(SharedBytes::from_slice(alloc, b"")?),
         "(Answer \"\" Completed)\n",
     );
     check(
         &rt,
-        Line::OutOfMemory(text(alloc, "a b")?),
+        Line::OutOfMemory(SharedBytes::from_slice(alloc, b"a b")?),
         "(Answer \"a b\" OutOfMemory)\n",
     );
     check(
@@ -157,7 +157,8 @@ fn each_refusal_has_its_text(rt: HostRuntime) -> Result<(), Fail> {
         ),
         (Exn::Unsupported, "(Answer 0 (CoqExn Unsupported))\n"),
     ] {
-        check(&rt, Line::CoqExn(text(alloc, "0")?, exn), want);
+        let tag = SharedBytes::from_slice(alloc, b"0")?;
+        check(&rt, Line::CoqExn(tag, exn), want);
     }
     Ok(())
 }

@@ -4,7 +4,9 @@ ghost use Rattle.std.specs.Option.{option_copied};
 ghost use Rattle.stm_base.specs.Output.{IsPut};
 ghost use Rattle.sexp_theory.specs.Values.{atom, values};
 ghost use Rattle.sexp_theory.specs.Writing.{between, text, texts};
-ghost use Rattle.serapi_ans.specs.Lines.{answer_value, number, pair, list_of, range_value, added_value, focus_value, edit_value, exn_value, bad_value, string_value, fault_value, message_value, verdict_value, line_text, lines_text, last_lines};
+ghost use Rattle.serapi_ans.specs.Lines.{answer_value, number, pair, list_of, range_value, added_value, focus_value, edit_value};
+ghost use Rattle.serapi_ans.specs.Lines.{exn_value, bad_value, string_value, fault_value, message_value, verdict_value, line_text};
+ghost use Rattle.serapi_ans.specs.Lines.{lines_text, last_lines};
 ghost use Rattle.serapi_ans.specs.declared.line.Line.TheVariants as lines;
 ghost use Rattle.serapi_ans.specs.Joined.{joined_head, fault_texts, joined_end};
 ghost use Rattle.serapi_ans.specs.Pieces.{tip_text, numbers_behind, string_texts};
@@ -55,7 +57,7 @@ pub fn write_line<K: Sink>(line: &Line, out: &mut Out<K>)
         Line::OutOfMemory(tag) => write_word(tag.as_slice(), b"OutOfMemory", out),
         Line::Completed(tag) => write_word(tag.as_slice(), b"Completed", out),
         Line::Feedback(id, route, verdict) => write_verdict(*id, *route, verdict, out),
-        Line::BadInput(place, kind, position) => write_bad(*place, kind, *position, out),
+        Line::BadInput(item, kind, offset) => write_bad(*item, kind, *offset, out),
     }
 }
 
@@ -302,16 +304,16 @@ fn put_message<K: Sink>(message: &[u8], out: &mut Out<K>)
     out.put(b"))");
 }
 
-/// Writes the line of an item that is no command.
-fn write_bad<K: Sink>(place: u64, kind: &BadText, position: u64, out: &mut Out<K>)
-    ensures { IsPut out.old (line_text (lines.BadInput place kind.now position)) out.new }
+/// Writes the line of the item with a number that is no command.
+fn write_bad<K: Sink>(item: u64, kind: &BadText, offset: u64, out: &mut Out<K>)
+    ensures { IsPut out.old (line_text (lines.BadInput item kind.now offset)) out.new }
 {
     open(b"BadInput", out);
-    put_number(place, out);
+    put_number(item, out);
     out.put(b" ");
     put_bad(kind, out);
     out.put(b" ");
-    put_number(position, out);
+    put_number(offset, out);
     out.put(b")\n");
 }
 

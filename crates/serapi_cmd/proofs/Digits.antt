@@ -1,5 +1,6 @@
 -- The digits of a number, one by one.
-use Rattle.std.proofs.Common.{◌≡◌, ◌≢◌, ◌+◌, ◌*◌, ◌<◌, ◌≤◌, ◌&&◌, nat_lt, ℕ, List, [], ◌∷◌, length, take, get_or, Bool, true, false, Some, None, refl, sym, ap, ◌∙◌, arith, if◌then◌else◌, subst}
+use Rattle.std.proofs.Common.{◌≡◌, ◌≢◌, ◌+◌, ◌*◌, ◌<◌, ◌≤◌, ◌&&◌, nat_lt, ℕ, List, [], ◌∷◌, length, take, get_or, Bool, true, false, Some}
+use Rattle.std.proofs.Common.{None, refl, sym, ap, ◌∙◌, arith, if◌then◌else◌, subst}
 use Rattle.std.specs.List.{list_all}
 use Rattle.std.specs.Char.{digit_value}
 use Rattle.std.specs.Str.Parse.{digits_value}
@@ -19,15 +20,18 @@ abbrev pub IsRead : List ℕ → ℕ → ℕ → Type 0
 IsRead bytes i n = (n ≡ digits_value 10 (take i bytes)) × (list_all is_decimal (take i bytes) ≡ true) × (n < most)
 
 -- a digit more
-pub read_more : (bytes : List ℕ) (i n m : ℕ) → i < length bytes → IsRead bytes i n → Some m ≡ with_digit n (get_or bytes i 0) → IsRead bytes (i + 1) m
-read_more bytes i n m within read is = by (is_decimal (get_or bytes i 0)) (nat_lt (n * 10 + digit_value (get_or bytes i 0)) most) refl refl is
+pub read_more : (bytes : List ℕ) (i n m : ℕ) → i < length bytes → IsRead bytes i n → Some m ≡ with_digit n (get_or bytes i 0)
+    → IsRead bytes (i + 1) m
+read_more bytes i n m within read is = by (is_decimal (get_or bytes i 0)) (nat_lt (n * 10 + digit_value (get_or bytes i 0)) most) refl
+    refl is
   where
     by : (d s : Bool) → is_decimal (get_or bytes i 0) ≡ d → nat_lt (n * 10 + digit_value (get_or bytes i 0)) most ≡ s
         → Some m ≡ (if d && s then Some (n * 10 + digit_value (get_or bytes i 0)) else None) → IsRead bytes (i + 1) m
     by true true d s e =
         let h : m ≡ n * 10 + digit_value (get_or bytes i 0) = cc in (
           h ∙ ap (λ k. k * 10 + digit_value (get_or bytes i 0)) read.0 ∙ sym (digits_value_more 10 bytes i within),
-          list_all_more is_decimal bytes i 0 within ∙ and_from (list_all is_decimal (take i bytes)) (is_decimal (get_or bytes i 0)) read.1 d,
+          list_all_more is_decimal bytes i 0 within ∙ and_from (list_all is_decimal (take i bytes)) (is_decimal (get_or bytes i 0)) read.1
+              d,
           subst (λ k. k < most) (sym h) (ltb-true _ _ s),
         )
     by true false d s e = cc
@@ -46,8 +50,10 @@ too_large [] e = refl
 too_large (b ∷ bs) e = none_of (list_all is_decimal (b ∷ bs)) (nat_lt (digits_value 10 (b ∷ bs)) most) (digits_value 10 (b ∷ bs)) e
 
 -- no digit more
-pub read_fails : (bytes : List ℕ) (i n : ℕ) → i < length bytes → IsRead bytes i n → None ≡ with_digit n (get_or bytes i 0) → None ≡ number_of bytes
-read_fails bytes i n within read is = by (is_decimal (get_or bytes i 0)) (nat_lt (n * 10 + digit_value (get_or bytes i 0)) most) refl refl is
+pub read_fails : (bytes : List ℕ) (i n : ℕ) → i < length bytes → IsRead bytes i n → None ≡ with_digit n (get_or bytes i 0)
+    → None ≡ number_of bytes
+read_fails bytes i n within read is = by (is_decimal (get_or bytes i 0)) (nat_lt (n * 10 + digit_value (get_or bytes i 0)) most) refl refl
+    is
   where
     by : (d s : Bool) → is_decimal (get_or bytes i 0) ≡ d → nat_lt (n * 10 + digit_value (get_or bytes i 0)) most ≡ s
         → None ≡ (if d && s then Some (n * 10 + digit_value (get_or bytes i 0)) else None) → None ≡ number_of bytes
@@ -56,7 +62,8 @@ read_fails bytes i n within read is = by (is_decimal (get_or bytes i 0)) (nat_lt
         let so_far : n * 10 + digit_value (get_or bytes i 0) ≡ digits_value 10 (take (i + 1) bytes) =
         ap (λ k. k * 10 + digit_value (get_or bytes i 0)) read.0 ∙ sym (digits_value_more 10 bytes i within) in
         let large : most ≤ n * 10 + digit_value (get_or bytes i 0) = ltb-false _ _ s in
-        too_large bytes (le-ltb (digits_value 10 bytes) most (omega (arith, large, so_far, digits_value-take-le 10 bytes (i + 1) (omega arith))))
+        too_large bytes (le-ltb (digits_value 10 bytes) most
+        (omega (arith, large, so_far, digits_value-take-le 10 bytes (i + 1) (omega arith))))
     by false s d t e = not_digits bytes (list_all_at is_decimal bytes i 0 within d)
 
 -- all digits are read
@@ -67,4 +74,5 @@ read_all (b ∷ bs) i n some all read =
     let value : n ≡ digits_value 10 (b ∷ bs) = read.0 ∙ ap (digits_value 10) whole in
     let digits : list_all is_decimal (b ∷ bs) ≡ true = ap (list_all is_decimal) (sym whole) ∙ read.1 in
     let fits : nat_lt (digits_value 10 (b ∷ bs)) most ≡ true = lt-ltb _ _ (subst (λ k. k < most) value read.2) in
-    ap Some value ∙ ap (λ t. if t then Some (digits_value 10 (b ∷ bs)) else None) (sym (and_from (list_all is_decimal (b ∷ bs)) (nat_lt (digits_value 10 (b ∷ bs)) most) digits fits))
+    ap Some value ∙ ap (λ t. if t then Some (digits_value 10 (b ∷ bs)) else None)
+    (sym (and_from (list_all is_decimal (b ∷ bs)) (nat_lt (digits_value 10 (b ∷ bs)) most) digits fits))

@@ -18,7 +18,8 @@ two_of_other (v ∷ []) other = refl
 two_of_other (v ∷ w ∷ []) other = absurd (other (omega arith))
 two_of_other (v ∷ w ∷ x ∷ vs) other = refl
 
-pub printing_of_other : (fields : List Sexp) (empty : Bool) → empty ≡ (length fields == 0) → None ≡ one (meanings fields) → empty ≡ is_printing (list (meanings fields))
+pub printing_of_other : (fields : List Sexp) (empty : Bool) → empty ≡ (length fields == 0) → None ≡ one (meanings fields)
+    → empty ≡ is_printing (list (meanings fields))
 printing_of_other [] empty is other = is
 printing_of_other (v ∷ []) empty is other = absurd cc
 printing_of_other (v ∷ w ∷ vs) empty is other = is ∙ ne_eqb (length (v ∷ w ∷ vs)) 0 (λ e. omega (arith, e))

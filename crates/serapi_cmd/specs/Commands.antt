@@ -8,7 +8,8 @@ use Rattle.serapi_cmd.specs.declared.command.QueryKind.{QueryKind}
 use Rattle.serapi_cmd.specs.declared.command.QueryKind.TheVariants.{Goals, Ast, Env, Definition}
 use Rattle.serapi_cmd.specs.declared.command.Tagged.{Tagged}
 use Rattle.serapi_cmd.specs.Words.{Word, add_word, cancel_word, exec_word, query_word, join_word, quit_word, word_of}
-use Rattle.serapi_cmd.specs.Faults.{Fault, unknown_command, bad_field, and_then}
+use Rattle.serapi_cmd.specs.Faults.{Fault, unknown_command, bad_field}
+use Rattle.base_core.specs.Answers.{and_then}
 use Rattle.serapi_cmd.specs.Fields.{is_word, one, two, pair, text, read_each}
 use Rattle.serapi_cmd.specs.Numbers.{number}
 use Rattle.serapi_cmd.specs.Options.{add_options, query_options}
@@ -26,6 +27,7 @@ add fields = elim (two fields) [
 abbrev pub add_id : List ℕ → Value → Result (List ℕ) Fault
 add_id ids v = and_then (number v) (λ n. Ok (ids ++ n ∷ []))
 
+-- a list of numbers, the ids of a Cancel
 abbrev pub ids : Value → Result (List ℕ) Fault
 ids (atom word) = Err (bad_field (codes "ids"))
 ids (list vs) = read_each add_id [] vs
@@ -51,14 +53,17 @@ plain_kind word =
     else (if is_word word (codes "Ast") then Some Ast
     else (if is_word word (codes "Env") then Some Env else None))
 
+-- `(Definition name)`
 abbrev pub definition : Option (List ℕ × Value) → Option QueryKind
 definition (Some (word, atom name)) = if is_word word (codes "Definition") then Some (Definition name) else None
 definition other = None
 
+-- the kind of a Query that a value is, if it is one
 abbrev pub kind_of : Value → Option QueryKind
 kind_of (atom word) = plain_kind word
 kind_of (list vs) = definition (pair (list vs))
 
+-- the same, or the fault that it is none
 abbrev pub kind : Value → Result QueryKind Fault
 kind v = elim (kind_of v) [ Some k ↦ Ok k | None ↦ Err (bad_field (codes "kind")) ]
 
@@ -92,6 +97,7 @@ untagged (atom word) = elim (word_of word) [ Some w ↦ option_map Ok (atom_form
 untagged (list (cons (atom word) fields)) = option_map (λ w. list_form w fields) (word_of word)
 untagged other = None
 
+-- a command that was read, with its tag
 abbrev pub tagged : List ℕ → Result Command Fault → Result Tagged Fault
 tagged tag read = and_then read (λ c. Ok (record { tag = tag; command = c }))
 
@@ -100,6 +106,6 @@ abbrev pub with_tag : Option (List ℕ × Value) → Result Tagged Fault
 with_tag None = Err unknown_command
 with_tag (Some (tag, v)) = elim (untagged v) [ Some read ↦ tagged tag read | None ↦ Err unknown_command ]
 
--- what the value at a place is read as
+-- what the value of the item with a number is read as
 abbrev pub reading : ℕ → Value → Result Tagged Fault
-reading place v = elim (untagged v) [ Some read ↦ tagged (decimal place) read | None ↦ with_tag (pair v) ]
+reading n v = elim (untagged v) [ Some read ↦ tagged (decimal n) read | None ↦ with_tag (pair v) ]

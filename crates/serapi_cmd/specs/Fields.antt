@@ -2,7 +2,8 @@
 use Rattle.std.specs.Prelude.{ℕ, List, Option, Some, None, Result, Ok, Err, codes, Bool, nat_eq}
 use Rattle.std.specs.Cmp.Lexicographic.{pointwise}
 use Rattle.sexp_theory.specs.Values.{Value, atom, list, Values, nil, cons}
-use Rattle.serapi_cmd.specs.Faults.{Fault, bad_field, and_then}
+use Rattle.serapi_cmd.specs.Faults.{Fault, bad_field}
+use Rattle.base_core.specs.Answers.{and_then}
 
 -- the one value of a list of one
 abbrev pub one : Values → Option Value

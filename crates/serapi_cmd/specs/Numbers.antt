@@ -12,6 +12,7 @@ abbrev pub is_number : List ℕ → Bool
 is_number [] = false
 is_number (b ∷ bs) = list_all is_decimal (b ∷ bs) && nat_lt (digits_value 10 (b ∷ bs)) 18446744073709551616
 
+-- the number that bytes spell, if they spell one
 abbrev pub number_of : List ℕ → Option ℕ
 number_of bytes = if is_number bytes then Some (digits_value 10 bytes) else None
 

@@ -1,15 +1,18 @@
 -- The options of an Add and of a Query.
-use Rattle.std.specs.Prelude.{ℕ, ◌&&◌, List, Bool, true, false, not, Option, Some, None, is_some, unwrap_or, Result, Ok, Err, if◌then◌else◌, codes}
+use Rattle.std.specs.Prelude.{ℕ, ◌&&◌, List, Bool, true, false, not, Option, Some, None, is_some, unwrap_or, Result, Ok, Err}
+use Rattle.std.specs.Prelude.{if◌then◌else◌, codes}
 use Rattle.sexp_theory.specs.Values.{Value, atom, list, nil, cons}
 use Rattle.serapi_cmd.specs.declared.command.AddOpts.{AddOpts}
 use Rattle.serapi_cmd.specs.declared.command.QueryOpts.{QueryOpts}
-use Rattle.serapi_cmd.specs.Faults.{Fault, bad_field, and_then}
+use Rattle.serapi_cmd.specs.Faults.{Fault, bad_field}
+use Rattle.base_core.specs.Answers.{and_then}
 use Rattle.serapi_cmd.specs.Fields.{is_word, pair, read_each}
 use Rattle.serapi_cmd.specs.Numbers.{number}
 
 -- `true` or `false`
 abbrev pub flag : Value → Result Bool Fault
-flag (atom word) = if is_word word (codes "true") then Ok true else (if is_word word (codes "false") then Ok false else Err (bad_field (codes "verb")))
+flag (atom word) = if is_word word (codes "true") then Ok true else
+    (if is_word word (codes "false") then Ok false else Err (bad_field (codes "verb")))
 flag (list vs) = Err (bad_field (codes "verb"))
 
 -- ---- the options of an Add, each at most once
@@ -28,15 +31,19 @@ add_setting given word v =
     else (if is_word word (codes "verb") && not (is_some given.verb) then and_then (flag v) (λ b. Ok (record given { verb = Some b }))
     else Err (bad_field word)))
 
+-- what one option more gives: a list of a word and a value
 abbrev pub add_option : AddSettings → Value → Result AddSettings Fault
 add_option given option = elim (pair option) [ Some p ↦ add_setting given p.0 p.1 | None ↦ Err (bad_field (codes "opts")) ]
 
+-- none is given
 abbrev pub no_add_option : AddSettings
 no_add_option = record { ontop = None; lim = None; verb = None }
 
+-- the options of an Add, where `verb` is false if it isn't given
 abbrev pub add_opts : AddSettings → AddOpts
 add_opts given = record { ontop = given.ontop; lim = given.lim; verb = unwrap_or given.verb false }
 
+-- the options of an Add, or their first fault
 abbrev pub add_options : Value → Result AddOpts Fault
 add_options (atom word) = Err (bad_field (codes "opts"))
 add_options (list options) = and_then (read_each add_option no_add_option options) (λ given. Ok (add_opts given))
@@ -66,12 +73,15 @@ query_setting given word v =
     else (if is_word word (codes "pp") && not given.pp && is_printing v then Ok (record given { pp = true })
     else Err (bad_field word))
 
+-- what one option more gives: a list of a word and a value
 abbrev pub query_option : QuerySettings → Value → Result QuerySettings Fault
 query_option given option = elim (pair option) [ Some p ↦ query_setting given p.0 p.1 | None ↦ Err (bad_field (codes "opts")) ]
 
+-- none is given
 abbrev pub no_query_option : QuerySettings
 no_query_option = record { sid = None; pp = false }
 
+-- the options of a Query, or their first fault
 abbrev pub query_options : Value → Result QueryOpts Fault
 query_options (atom word) = Err (bad_field (codes "opts"))
 query_options (list options) = and_then (read_each query_option no_query_option options) (λ given. Ok (record { sid = given.sid }))

@@ -1,6 +1,6 @@
 //! Commands.
 
-use base_core::{Bytes, Ids};
+use base_core::{Bytes, Ids, SharedBytes};
 
 /// A command. Ids are those of sentences; an Add's text is its bytes without the quotes that it was written with.
 #[derive(Debug, Drop)]
@@ -37,9 +37,9 @@ pub enum QueryKind {
     Definition(Bytes),
 }
 
-/// A command with the tag that its answers are given.
+/// A command with the tag that its answers are given: each line that answers it shares these bytes.
 #[derive(Debug, Drop)]
 pub struct Tagged {
-    pub tag: Bytes,
+    pub tag: SharedBytes,
     pub command: Command,
 }

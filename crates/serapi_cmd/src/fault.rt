@@ -1,6 +1,6 @@
 //! Why a value is no command.
 ghost use Rattle.std.specs.Prelude.{Err};
-ghost use Rattle.serapi_cmd.specs.Faults.{Gives, bad_field};
+ghost use Rattle.serapi_cmd.specs.Faults.{Reads, bad_field};
 
 use base_core::{Bytes, NoMemory};
 use std::alloc::Global;
@@ -31,7 +31,7 @@ impl From<NoMemory> for CmdFault {
 
 /// The fault of a field with this name, or want of memory.
 pub(crate) fn bad_field<T>(alloc: Global, name: &[u8]) -> Result<T, CmdFault>
-    ensures { Gives result (Err (bad_field name.now)) }
+    ensures { Reads result (Err (bad_field name.now)) }
 {
     Err(CmdFault::BadField(Bytes::from_slice(alloc, name)?))
 }

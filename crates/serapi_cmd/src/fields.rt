@@ -3,7 +3,7 @@ ghost use Rattle.std.specs.Prelude.{◌≡◌, option_map};
 ghost use Rattle.serapi_cmd.specs.Fields.{one, two, pair, text};
 ghost use Rattle.serapi_cmd.specs.Meanings.{meanings, of_one, of_two, of_pair};
 ghost use Rattle.sexp_core.specs.Sexp.{meaning};
-ghost use Rattle.serapi_cmd.specs.Faults.{Gives};
+ghost use Rattle.serapi_cmd.specs.Faults.{Reads};
 
 use crate::CmdFault;
 use crate::fault::bad_field;
@@ -49,8 +49,8 @@ pub fn pair_of(value: &Sexp) -> Option<(&[u8], &Sexp)>
 }
 
 /// A copy of an atom's bytes, for a field that is a text.
-pub fn read_text(alloc: Global, field: &Sexp) -> Result<Bytes, CmdFault>
-    ensures { Gives result (text (meaning field.now)) }
+pub fn copy_atom(alloc: Global, field: &Sexp) -> Result<Bytes, CmdFault>
+    ensures { Reads result (text (meaning field.now)) }
 {
     match field {
         Sexp::Atom(text) => Ok(Bytes::from_slice(alloc, text.as_slice())?),

@@ -13,12 +13,12 @@ mod fault;
 mod fields;
 mod number;
 mod options;
-mod reading;
+mod read;
 mod request;
 #[cfg(test)]
 mod tests;
 
 pub use command::{AddOpts, Command, QueryKind, QueryOpts, Tagged};
 pub use fault::CmdFault;
-pub use reading::read_command;
+pub use read::read_command;
 pub use request::{BadLine, InputFault, Request, request_of_bad_place, request_of_value};

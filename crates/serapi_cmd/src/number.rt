@@ -1,7 +1,7 @@
 //! Numbers.
 ghost use Rattle.std.specs.Prelude.{◌≡◌};
 ghost use Rattle.sexp_core.specs.Sexp.{meaning};
-ghost use Rattle.serapi_cmd.specs.Faults.{Gives};
+ghost use Rattle.serapi_cmd.specs.Faults.{Reads};
 ghost use Rattle.serapi_cmd.specs.Numbers.{number_of, number, with_digit};
 
 use crate::CmdFault;
@@ -9,7 +9,7 @@ use sexp_core::Sexp;
 
 /// The number that a value is, or BadNumber.
 pub fn read_number(value: &Sexp) -> Result<u64, CmdFault>
-    ensures { Gives result (number (meaning value.now)) }
+    ensures { Reads result (number (meaning value.now)) }
 {
     match value {
         Sexp::Atom(digits) => number_of(digits.as_slice()).ok_or(CmdFault::BadNumber),

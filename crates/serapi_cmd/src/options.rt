@@ -2,7 +2,7 @@
 ghost use Rattle.std.specs.Prelude.{◌≡◌};
 ghost use Rattle.sexp_core.specs.Sexp.{meaning};
 ghost use Rattle.sexp_theory.specs.Values.{list};
-ghost use Rattle.serapi_cmd.specs.Faults.{Gives};
+ghost use Rattle.serapi_cmd.specs.Faults.{Reads};
 ghost use Rattle.serapi_cmd.specs.Fields.{read_each};
 ghost use Rattle.serapi_cmd.specs.Meanings.{meanings};
 ghost use Rattle.serapi_cmd.specs.Options.{
@@ -60,7 +60,7 @@ impl Model for QueryGiven {
 
 /// The options of an Add: the first that has a fault gives it.
 pub fn read_add_options(alloc: Global, options: &Sexp) -> Result<AddOpts, CmdFault>
-    ensures { Gives result (add_options (meaning options.now)) }
+    ensures { Reads result (add_options (meaning options.now)) }
 {
     let Sexp::List(options) = options else {
         return bad_field(alloc, b"opts");
@@ -74,7 +74,7 @@ pub fn read_add_options(alloc: Global, options: &Sexp) -> Result<AddOpts, CmdFau
 }
 
 fn read_add_list(alloc: Global, options: &[Sexp]) -> Result<AddGiven, CmdFault>
-    ensures { Gives result (read_each add_option no_add_option (meanings options.now)) }
+    ensures { Reads result (read_each add_option no_add_option (meanings options.now)) }
 {
     let mut given = AddGiven {
         ontop: None,
@@ -88,7 +88,7 @@ fn read_add_list(alloc: Global, options: &[Sexp]) -> Result<AddGiven, CmdFault>
 }
 
 fn read_add_option(alloc: Global, given: AddGiven, option: &Sexp) -> Result<AddGiven, CmdFault>
-    ensures { Gives result (add_option given (meaning option.now)) }
+    ensures { Reads result (add_option given (meaning option.now)) }
 {
     match pair_of(option) {
         Some((word, value)) => read_add_setting(alloc, given, word, value),
@@ -102,7 +102,7 @@ fn read_add_setting(
     word: &[u8],
     value: &Sexp,
 ) -> Result<AddGiven, CmdFault>
-    ensures { Gives result (add_setting given word.now (meaning value.now)) }
+    ensures { Reads result (add_setting given word.now (meaning value.now)) }
 {
     if word == b"ontop".as_slice() && given.ontop.is_none() {
         let ontop = Some(read_number(value)?);
@@ -120,7 +120,7 @@ fn read_add_setting(
 }
 
 fn read_flag(alloc: Global, value: &Sexp) -> Result<bool, CmdFault>
-    ensures { Gives result (flag (meaning value.now)) }
+    ensures { Reads result (flag (meaning value.now)) }
 {
     if let Sexp::Atom(word) = value {
         if word.as_slice() == b"true".as_slice() {
@@ -135,7 +135,7 @@ fn read_flag(alloc: Global, value: &Sexp) -> Result<bool, CmdFault>
 
 /// The options of a Query: the first that has a fault gives it.
 pub fn read_query_options(alloc: Global, options: &Sexp) -> Result<QueryOpts, CmdFault>
-    ensures { Gives result (query_options (meaning options.now)) }
+    ensures { Reads result (query_options (meaning options.now)) }
 {
     let Sexp::List(options) = options else {
         return bad_field(alloc, b"opts");
@@ -145,7 +145,7 @@ pub fn read_query_options(alloc: Global, options: &Sexp) -> Result<QueryOpts, Cm
 }
 
 fn read_query_list(alloc: Global, options: &[Sexp]) -> Result<QueryGiven, CmdFault>
-    ensures { Gives result (read_each query_option no_query_option (meanings options.now)) }
+    ensures { Reads result (read_each query_option no_query_option (meanings options.now)) }
 {
     let mut given = QueryGiven {
         sid: None,
@@ -162,7 +162,7 @@ fn read_query_option(
     given: QueryGiven,
     option: &Sexp,
 ) -> Result<QueryGiven, CmdFault>
-    ensures { Gives result (query_option given (meaning option.now)) }
+    ensures { Reads result (query_option given (meaning option.now)) }
 {
     match pair_of(option) {
         Some((word, value)) => read_query_setting(alloc, given, word, value),
@@ -176,7 +176,7 @@ fn read_query_setting(
     word: &[u8],
     value: &Sexp,
 ) -> Result<QueryGiven, CmdFault>
-    ensures { Gives result (query_setting given word.now (meaning value.now)) }
+    ensures { Reads result (query_setting given word.now (meaning value.now)) }
 {
     if word == b"sid".as_slice() && given.sid.is_none() {
         let sid = Some(read_number(value)?);

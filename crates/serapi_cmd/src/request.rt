@@ -16,13 +16,13 @@ pub enum Request {
     Bad(BadLine),
 }
 
-/// An item that is no command: its place, the number of the item from 0; why; and where, the offset in bytes of
-/// the input from 0. That is the bad place, or the first byte of a value that is no command.
+/// An item that is no command: its number among the items, from 0; why; and where, the offset in bytes of the input
+/// from 0. That is the bad place, or the first byte of a value that is no command.
 #[derive(Debug, Drop)]
 pub struct BadLine {
-    pub place: u64,
+    pub number: u64,
     pub kind: InputFault,
-    pub position: u64,
+    pub offset: u64,
 }
 
 /// Why an item is no command: a bad place of the text, as `BadKind`, or a fault of its value, as `CmdFault`.
@@ -53,16 +53,16 @@ impl Request {
     }
 }
 
-/// The request of a value at a place whose first byte has the offset `first`.
+/// The request of the item with a number that is a value, whose first byte has the offset `first`.
 pub fn request_of_value(
     alloc: Global,
     sexp: &Sexp,
-    place: u64,
+    number: u64,
     first: u64,
 ) -> Result<Request, NoMemory>
-    ensures { IfOk result (λ request. request ≡ value_request place (meaning sexp.now) first) }
+    ensures { IfOk result (λ request. request ≡ value_request number (meaning sexp.now) first) }
 {
-    let kind = match read_command(alloc, sexp, place) {
+    let kind = match read_command(alloc, sexp, number) {
         Ok(tagged) => return Ok(Request::Do(tagged)),
         Err(CmdFault::UnknownCommand) => InputFault::UnknownCommand,
         Err(CmdFault::BadField(name)) => InputFault::BadField(name),
@@ -70,20 +70,20 @@ pub fn request_of_value(
         Err(CmdFault::NoMemory) => return Err(NoMemory),
     };
     Ok(Request::Bad(BadLine {
-        place,
+        number,
         kind,
-        position: first,
+        offset: first,
     }))
 }
 
-/// The request of a bad place at this position.
-pub fn request_of_bad_place(kind: BadKind, place: u64, position: u64) -> Request
-    ensures { result ≡ request_of place (bad_item position kind) }
+/// The request of the item with a number that is a bad place, at this offset.
+pub fn request_of_bad_place(kind: BadKind, number: u64, offset: u64) -> Request
+    ensures { result ≡ request_of number (bad_item offset kind) }
 {
     Request::Bad(BadLine {
-        place,
+        number,
         kind: reader_fault(kind),
-        position,
+        offset,
     })
 }
 

@@ -206,8 +206,8 @@ fn value_of(alloc: Global, text: &str) -> Result<Sexp, NoMemory> {
     Ok(values.pop().unwrap_or(Sexp::Atom(Bytes::from_vec(atom))))
 }
 
-fn push_bytes(alloc: Global, text: &mut String, bytes: &Bytes) -> Result<(), AllocError> {
-    let shown = String::from_utf8_lossy(alloc, bytes.as_slice())?;
+fn push_bytes(alloc: Global, text: &mut String, bytes: &[u8]) -> Result<(), AllocError> {
+    let shown = String::from_utf8_lossy(alloc, bytes)?;
     text.push_str(shown.as_str())
 }
 
@@ -218,7 +218,7 @@ fn push_command(alloc: Global, text: &mut String, command: &Command) -> Result<(
             let lim = options.lim;
             let verb = options.verb;
             write!(text, " Add {ontop:?} {lim:?} {verb} ")?;
-            push_bytes(alloc, text, bytes)
+            push_bytes(alloc, text, bytes.as_slice())
         }
         Command::Cancel(ids) => {
             text.push_str(" Cancel")?;
@@ -237,7 +237,7 @@ fn push_command(alloc: Global, text: &mut String, command: &Command) -> Result<(
                 QueryKind::Env => text.push_str("Env"),
                 QueryKind::Definition(name) => {
                     text.push_str("Definition ")?;
-                    push_bytes(alloc, text, name)
+                    push_bytes(alloc, text, name.as_slice())
                 }
             }
         }
@@ -250,13 +250,13 @@ fn told(alloc: Global, read: &Result<Tagged, CmdFault>) -> Result<String, AllocE
     let mut text = String::new(alloc);
     match read {
         Ok(tagged) => {
-            push_bytes(alloc, &mut text, &tagged.tag)?;
+            push_bytes(alloc, &mut text, tagged.tag.as_slice())?;
             push_command(alloc, &mut text, &tagged.command)?;
         }
         Err(CmdFault::UnknownCommand) => text.push_str("UnknownCommand")?,
         Err(CmdFault::BadField(name)) => {
             text.push_str("BadField ")?;
-            push_bytes(alloc, &mut text, name)?;
+            push_bytes(alloc, &mut text, name.as_slice())?;
         }
         Err(CmdFault::BadNumber) => text.push_str("BadNumber")?,
         Err(CmdFault::NoMemory) => text.push_str("NoMemory")?,
@@ -268,12 +268,12 @@ fn told_request(alloc: Global, request: &Request) -> Result<String, AllocError> 
     let mut text = String::new(alloc);
     match request {
         Request::Do(tagged) => {
-            push_bytes(alloc, &mut text, &tagged.tag)?;
+            push_bytes(alloc, &mut text, tagged.tag.as_slice())?;
             push_command(alloc, &mut text, &tagged.command)?;
         }
         Request::Bad(line) => {
-            let place = line.place;
-            write!(text, "BadInput {place} ")?;
+            let number = line.number;
+            write!(text, "BadInput {number} ")?;
             match &line.kind {
                 InputFault::StrayClose => text.push_str("StrayClose")?,
                 InputFault::BadEscape => text.push_str("BadEscape")?,
@@ -283,12 +283,12 @@ fn told_request(alloc: Global, request: &Request) -> Result<String, AllocError> 
                 InputFault::UnknownCommand => text.push_str("UnknownCommand")?,
                 InputFault::BadField(name) => {
                     text.push_str("BadField ")?;
-                    push_bytes(alloc, &mut text, name)?;
+                    push_bytes(alloc, &mut text, name.as_slice())?;
                 }
                 InputFault::BadNumber => text.push_str("BadNumber")?,
             }
-            let position = line.position;
-            write!(text, " {position}")?;
+            let offset = line.offset;
+            write!(text, " {offset}")?;
         }
     }
     Ok(text)
@@ -297,9 +297,9 @@ fn told_request(alloc: Global, request: &Request) -> Result<String, AllocError> 
 #[test]
 fn each_value_is_read_by_the_tables(rt: HostRuntime) -> Result<(), Fail> {
     for table in [TAGS.as_slice(), &NUMBERS, &ADDS, &QUERIES] {
-        for (text, place, expected) in table {
+        for (text, number, expected) in table {
             let value = value_of(rt.alloc(), text)?;
-            let read = read_command(rt.alloc(), &value, *place);
+            let read = read_command(rt.alloc(), &value, *number);
             let told = told(rt.alloc(), &read)?;
             assert_eq!(rt; told.as_str(), *expected, "at {text:?}");
         }
@@ -308,7 +308,7 @@ fn each_value_is_read_by_the_tables(rt: HostRuntime) -> Result<(), Fail> {
 }
 
 #[test]
-fn an_item_is_a_request_at_its_place(rt: HostRuntime) -> Result<(), Fail> {
+fn an_item_is_a_request_with_its_number(rt: HostRuntime) -> Result<(), Fail> {
     let values = [
         ("(Quit)", 0, 0, "BadInput 0 BadField Quit 0", false),
         ("(q Quit)", 1, 7, "q Quit", true),
@@ -317,9 +317,9 @@ fn an_item_is_a_request_at_its_place(rt: HostRuntime) -> Result<(), Fail> {
         ("Join", 4, 99, "4 Join", false),
         ("Quit", 4, 99, "4 Quit", true),
     ];
-    for (text, place, first, expected, quits) in values {
+    for (text, number, first, expected, quits) in values {
         let value = value_of(rt.alloc(), text)?;
-        let request = request_of_value(rt.alloc(), &value, place, first)?;
+        let request = request_of_value(rt.alloc(), &value, number, first)?;
         let told = told_request(rt.alloc(), &request)?;
         assert_eq!(rt; told.as_str(), expected, "at {text:?}");
         assert_eq!(rt; request.is_quit(), quits, "at {text:?}");
@@ -331,8 +331,8 @@ fn an_item_is_a_request_at_its_place(rt: HostRuntime) -> Result<(), Fail> {
         (BadKind::TooLong, 3, 1048576, "BadInput 3 TooLong 1048576"),
         (BadKind::HashBar, 4, 9, "BadInput 4 HashBar 9"),
     ];
-    for (kind, place, position, expected) in bad_places {
-        let request = request_of_bad_place(kind, place, position);
+    for (kind, number, offset, expected) in bad_places {
+        let request = request_of_bad_place(kind, number, offset);
         let told = told_request(rt.alloc(), &request)?;
         assert_eq!(rt; told.as_str(), expected);
         assert_eq!(rt; request.is_quit(), false);

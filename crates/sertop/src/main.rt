@@ -10,7 +10,8 @@ mod tests;
 mod top;
 
 use session_run::{BAD_WORDS, NO_MEMORY};
-use std::env;
+use std::alloc::{AllocGlobal, Global};
+use std::env::{self, Env, FillError};
 use std::io::ErrorKind;
 use std::process::ExitCode;
 use stm_base::{StdSink, StdSource};
@@ -18,12 +19,9 @@ pub use top::sertop_main;
 
 fn main(rt: HostRuntime) -> ExitCode {
     let alloc = rt.alloc();
-    let args = match env::args(&rt) {
-        Ok(args) => args,
-        Err(fault) => return ExitCode::from(status_of_words(fault.kind())),
-    };
-    let Ok(words) = args.skip(1).collect::<Vec<String>>(alloc) else {
-        return ExitCode::from(NO_MEMORY);
+    let words = match words_of(&rt, alloc) {
+        Ok(words) => words,
+        Err(status) => return ExitCode::from(status),
     };
     let Ok(sink) = StdSink::new(alloc, rt.stdout()) else {
         return ExitCode::from(NO_MEMORY);
@@ -33,11 +31,18 @@ fn main(rt: HostRuntime) -> ExitCode {
     ExitCode::from(ended.status)
 }
 
-/// The status where the words can't be had: for want of memory, or since one of them isn't UTF-8, which no
-/// stated command has.
-fn status_of_words(fault: ErrorKind) -> u8 {
-    match fault {
-        ErrorKind::OutOfMemory => NO_MEMORY,
-        _ => BAD_WORDS,
+/// The words behind the program's name, which is none of them, whatever its bytes are. Where they can't be had, the
+/// status: want of memory, or that one of them isn't UTF-8, which no stated command has.
+fn words_of(rt: &(impl Env + AllocGlobal), alloc: Global) -> Result<Vec<String>, u8> {
+    match env::args(rt) {
+        Ok(args) => args
+            .skip(1)
+            .collect::<Vec<String>>(alloc)
+            .map_err(|_| NO_MEMORY),
+        Err(fault) if fault.kind() == ErrorKind::OutOfMemory => Err(NO_MEMORY),
+        Err(_) => match rt.arg(1, &mut []) {
+            Err(FillError::NotPresent) => Ok(Vec::new(alloc)),
+            _ => Err(BAD_WORDS),
+        },
     }
 }

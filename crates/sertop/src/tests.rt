@@ -19,8 +19,8 @@ fn run_sure(alloc: Global, bytes: &[u8]) -> u8
 
 /// Over memory the clauses tell the bytes.
 fn run_memory(alloc: Global, source: &mut MemSource, sink: MemSink) -> Ended<MemSink>
-    ensures written { result.status ≡ 0 → result.sink.written ≡ sink.written ++ render result.history.entries }
-    ensures read { result.status ≡ 0 → requests result.history.entries ≡ requests_in (take result.taken source.old.left) result.at_end }
+    ensures written { result.status ≡ 0 → result.sink.written ≡ sink.written ++ render result.history.items }
+    ensures read { result.status ≡ 0 → requests result.history.items ≡ requests_in (take result.taken source.old.left) result.at_end }
 {
     serve_alone(alloc, source, sink)
 }
@@ -132,7 +132,7 @@ fn each_request_is_answered(rt: HostRuntime) -> Result<(), Fail> {
             b"(Add () \"Lemma a : A.\")\n",
             b"(Answer 0 Ack)\n(Answer 0 (CoqExn Unsupported))\n(Answer 0 Completed)\n",
         ),
-        // Blanks and comments have no place, and a last atom needs no end.
+        // Blanks and comments have no number, and a last atom needs no end.
         (
             b"\n   ; one\n(Add () \"Parameter A : Prop.\")\n (Add () \"Parameter B : Prop.\")Quit",
             b"(Answer 0 Ack)\n(Answer 0 (Added 2 ((bp 0)(ep 19)) NewTip))\n(Answer 0 Completed)\n\
@@ -140,7 +140,7 @@ fn each_request_is_answered(rt: HostRuntime) -> Result<(), Fail> {
 (Answer 2 Ack)\n(Answer 2 Completed)\n",
         ),
         (b"   ; nothing", b""),
-        // A command has its place as its tag, or the tag that it is given.
+        // A command has its number as its tag, or the tag that it is given.
         (
             b"(Quit)\n(q Quit)\n",
             b"(BadInput 0 (BadField Quit) 0)\n(Answer q Ack)\n(Answer q Completed)\n",

@@ -1,5 +1,6 @@
 -- What stands of a run once its history is closed.
-use Rattle.std.proofs.Common.{◌≡◌, ℕ, ◌<◌, ◌⊎◌, inl, inr, List, [], ◌∷◌, ◌++◌, length, take, Option, None, Some, IfSome, Bool, true, false, ◌||◌, refl, sym, ap, ◌∙◌, subst, append-nil, arith}
+use Rattle.std.proofs.Common.{◌≡◌, ℕ, ◌<◌, ◌⊎◌, inl, inr, List, [], ◌∷◌, ◌++◌, length, take, Option, None, Some, IfSome, Bool, true}
+use Rattle.std.proofs.Common.{false, ◌||◌, refl, sym, ap, ◌∙◌, subst, append-nil, arith}
 use Rattle.std.specs.Io.KnownBytes.{Appends}
 use Rattle.std.proofs.Math.Seq.{take-append_seam}
 use Rattle.std.proofs.lemmas.List.{take_all}
@@ -9,12 +10,16 @@ use Rattle.sexp_theory.specs.declared.input.InputEnd.TheVariants.{Clean, Truncat
 use Rattle.serapi_cmd.specs.declared.request.Request.{Request}
 use Rattle.serapi_cmd.specs.declared.request.Request.TheVariants.{Do, Bad}
 use Rattle.serapi_ans.specs.declared.line.Line.{Line}
+use Rattle.base_core.specs.Lists.{Begins}
 use Rattle.session_run.specs.Items.{requests_in}
 use Rattle.session_run.specs.Answers.{Document, MayBe, answer, command_lines, last_lines}
-use Rattle.session_run.specs.Histories.{Place, start, step, place, Legal, LegalFrom, render, requests, outcomes}
-use Rattle.session_run.specs.Headline.{AllWhole, EndsClean, EndsInside, HasCompleteness, HasDoneCause, HasRead, HasReadFaultCause, HasTooLongCause, HasTruncatedCause, HasWriteFaultCause, HasWritten, IsAnswered, IsClean, HasLegalHistory, IsOneThread, IsOrLost, IsQuit, IsStatus, IsTooLong, IsTruncated, any_short, has_short, is_short}
-use Rattle.session_run.specs.Serving.{Begins, HasStopped, IsAll, IsLost, Served, status_of, status_of_loss}
-use Rattle.session_run.proofs.Grown.{place-grown, legal-grown, render-grown, requests-closed, one_thread}
+use Rattle.session_run.specs.Histories.{Standing, start, step, standing, Legal, LegalFrom, render, requests, outcomes}
+use Rattle.session_run.specs.Headline.{AllWhole, EndsClean, EndsInside, HasCompleteness, HasDoneCause, HasRead, HasReadFaultCause}
+use Rattle.session_run.specs.Headline.{HasTooLongCause, HasTruncatedCause, HasWriteFaultCause, HasWritten, IsAnswered, IsClean}
+use Rattle.session_run.specs.Headline.{HasLegalHistory, IsOneThread, IsOrLost, IsQuit, IsStatus, IsTooLong, IsTruncated, any_short}
+use Rattle.session_run.specs.Headline.{has_short, is_short}
+use Rattle.session_run.specs.Serving.{HasStopped, IsAll, IsLost, Served, status_of, status_of_loss}
+use Rattle.session_run.proofs.Grown.{standing-grown, legal-grown, render-grown, requests-closed, one_thread}
 use Rattle.session_run.specs.declared.cut.Cut.{Cut}
 use Rattle.session_run.specs.declared.cut.Cut.TheVariants.{Whole, After}
 use Rattle.session_run.specs.declared.history.Entry.{Entry}
@@ -29,10 +34,10 @@ use Rattle.session_run.specs.declared.serve.TheConstants.{INPUT_LIMIT}
 -- ---- the status of a run, before its history is closed
 
 record Facts (before : Option (List ℕ)) (r s n : ℕ) (at_end : Bool) (status : ℕ) (k : List Entry) (o : Output) : Type 0 where
-  first : IfSome before (λ all. Begins (requests_in (take n all) at_end) k)
+  first : IfSome before (λ all. Begins (requests k) (requests_in (take n all) at_end))
   whole : IsAnswered status → IsAll before n at_end k
   clean : IsAnswered status → o.failed ≡ false
-  ended : status ≡ DONE → (place k).quit ≡ false → at_end ≡ true
+  ended : status ≡ DONE → (standing k).quit ≡ false → at_end ≡ true
   truncated_end : status ≡ TRUNCATED → at_end ≡ true
   not_ended : (status ≡ READ_FAULT) ⊎ (status ≡ TOO_LONG) → at_end ≡ false
   done_only : status ≡ DONE → IsQuit k ⊎ IfSome before (λ all. IsClean all n at_end k)
@@ -57,8 +62,10 @@ mapped : (before : Option (List ℕ)) (P Q : List ℕ → Type 0) → ((all : Li
 mapped None P Q f p = tt
 mapped (Some all) P Q f p = f all p
 
-begins-all : (before : Option (List ℕ)) (n : ℕ) (at_end : Bool) (k : List Entry) → IsAll before n at_end k → IfSome before (λ all. Begins (requests_in (take n all) at_end) k)
-begins-all before n at_end k a = mapped before _ (λ all. Begins (requests_in (take n all) at_end) k) (λ all e. ([], sym e ∙ sym (append-nil (requests k)))) a
+begins-all : (before : Option (List ℕ)) (n : ℕ) (at_end : Bool) (k : List Entry) → IsAll before n at_end k
+    → IfSome before (λ all. Begins (requests k) (requests_in (take n all) at_end))
+begins-all before n at_end k a = mapped before _ (λ all. Begins (requests k) (requests_in (take n all) at_end))
+    (λ all e. ([], sym e ∙ sym (append-nil (requests k)))) a
 
 differs : (b : Bool) (A : Type 0) → b ≡ true → b ≡ false → A
 differs b A t f = let d : true ≡ false = sym t ∙ f in absurd (cc)
@@ -131,7 +138,7 @@ facts-quit before r s n at_end k o h = record {
   first = begins-all before n at_end k h.0;
   whole = λ _. h.0;
   clean = λ _. h.2;
-  ended = λ e q. differs (place k).quit (at_end ≡ true) h.1 q;
+  ended = λ e q. differs (standing k).quit (at_end ≡ true) h.1 q;
   truncated_end = λ e. absurd (omega arith);
   not_ended = done-stops (at_end ≡ false);
   done_only = λ _. inl h.1;
@@ -142,9 +149,9 @@ facts-quit before r s n at_end k o h = record {
   reads = inr h.3;
   write_fault = λ e. absurd (omega arith);
   truncated_only = λ e. absurd (omega arith);
-  truncated_always = each before _ (λ all t. differs (place k).quit _ h.1 t.no_quit);
+  truncated_always = each before _ (λ all t. differs (standing k).quit _ h.1 t.no_quit);
   long_only = λ e. absurd (omega arith);
-  long_always = λ l. differs (place k).quit _ h.1 l.no_quit;
+  long_always = λ l. differs (standing k).quit _ h.1 l.no_quit;
   known = inl refl;
 }
 
@@ -157,7 +164,8 @@ facts-clean before r s n at_end k o h = record {
   ended = λ e q. h.4;
   truncated_end = λ e. absurd (omega arith);
   not_ended = done-stops (at_end ≡ false);
-  done_only = λ _. inr (mapped before _ (λ all. IsClean all n at_end k) (λ all e. record { ended = h.4; no_quit = h.1; clean = subst EndsClean (sym e) tt }) h.5);
+  done_only = λ _. inr (mapped before _ (λ all. IsClean all n at_end k)
+      (λ all e. record { ended = h.4; no_quit = h.1; clean = subst EndsClean (sym e) tt }) h.5);
   done_which = λ _. inr h.4;
   at_quit = λ _. inl refl;
   at_clean = each before _ (λ all c. inl refl);
@@ -165,7 +173,8 @@ facts-clean before r s n at_end k o h = record {
   reads = inr h.3;
   write_fault = λ e. absurd (omega arith);
   truncated_only = λ e. absurd (omega arith);
-  truncated_always = mapped before _ (λ all. IsTruncated all n at_end k → IsOrLost DONE TRUNCATED) (λ all e t. absurd (subst EndsInside e t.inside)) h.5;
+  truncated_always = mapped before _ (λ all. IsTruncated all n at_end k
+      → IsOrLost DONE TRUNCATED) (λ all e t. absurd (subst EndsInside e t.inside)) h.5;
   long_only = λ e. absurd (omega arith);
   long_always = λ l. differs at_end _ h.4 l.going_on;
   known = inl refl;
@@ -182,12 +191,13 @@ facts-truncated before r s n at_end p k o h = record {
   not_ended = truncated-stops (at_end ≡ false);
   done_only = λ e. absurd (omega arith);
   done_which = λ e. absurd (omega arith);
-  at_quit = λ q. differs (place k).quit _ q h.1;
+  at_quit = λ q. differs (standing k).quit _ q h.1;
   at_clean = mapped before _ (λ all. IsClean all n at_end k → IsOrLost TRUNCATED DONE) (λ all e c. absurd (subst EndsClean e c.clean)) h.5;
   read_fault = λ e. absurd (omega arith);
   reads = inr h.3;
   write_fault = λ e. absurd (omega arith);
-  truncated_only = λ _. mapped before _ (λ all. IsTruncated all n at_end k) (λ all e. record { ended = h.4; no_quit = h.1; inside = subst EndsInside (sym e) tt }) h.5;
+  truncated_only = λ _. mapped before _ (λ all. IsTruncated all n at_end k)
+      (λ all e. record { ended = h.4; no_quit = h.1; inside = subst EndsInside (sym e) tt }) h.5;
   truncated_always = each before _ (λ all t. inl refl);
   long_only = λ e. absurd (omega arith);
   long_always = λ l. differs at_end _ h.4 l.going_on;
@@ -205,7 +215,7 @@ facts-fault before r s n at_end k o h = record {
   not_ended = λ _. h.4;
   done_only = λ e. absurd (omega arith);
   done_which = λ e. absurd (omega arith);
-  at_quit = λ q. differs (place k).quit _ q h.1;
+  at_quit = λ q. differs (standing k).quit _ q h.1;
   at_clean = each before _ (λ all c. differs at_end _ c.ended h.4);
   read_fault = λ _. h.3;
   reads = inl refl;
@@ -228,7 +238,7 @@ facts-limit before r s n at_end k o h = record {
   not_ended = λ _. h.4;
   done_only = λ e. absurd (omega arith);
   done_which = λ e. absurd (omega arith);
-  at_quit = λ q. differs (place k).quit _ q h.1;
+  at_quit = λ q. differs (standing k).quit _ q h.1;
   at_clean = each before _ (λ all c. differs at_end _ c.ended h.4);
   read_fault = λ e. absurd (omega arith);
   reads = inr h.3;
@@ -290,11 +300,12 @@ whole-cut d q Whole may e = refl
 whole-cut d (Bad b) (After n) may e = absurd may
 whole-cut d (Do t) (After n) may e =
     let xs = command_lines d t.tag t.command (After n) in
-    let short : has_short (xs ++ last_lines t.tag (After n)) ≡ true = has_short-append xs (last_lines t.tag (After n)) ∙ or-true (has_short xs) true refl in
+    let short : has_short (xs ++ last_lines t.tag (After n)) ≡ true = has_short-append xs (last_lines t.tag (After n))
+    ∙ or-true (has_short xs) true refl in
     let d : true ≡ false = sym short ∙ e in
     absurd (cc)
 
-all_whole : (p : Place) (h : List Entry) → LegalFrom p h → any_short h ≡ false → AllWhole (outcomes h)
+all_whole : (p : Standing) (h : List Entry) → LegalFrom p h → any_short h ≡ false → AllWhole (outcomes h)
 all_whole p [] l e = tt
 all_whole p (Command n q cut ls ∷ es) l e = (
   whole-cut p.document q cut l.0.may (ap has_short (sym l.0.lines) ∙ or-left (has_short ls) (any_short es) e),
@@ -304,7 +315,8 @@ all_whole p (Close ∷ es) l e = all_whole (step p Close) es l.1 e
 
 -- ---- with Close at the end
 
-pub record Told (before now : Option (List ℕ)) (r s : ℕ) (old new : Option (List ℕ)) (f g : ℕ) (status taken : ℕ) (at_end : Bool) (h : List Entry) : Type 0 where
+pub record Told (before now : Option (List ℕ)) (r s : ℕ) (old new : Option (List ℕ)) (f g : ℕ) (status taken : ℕ) (at_end : Bool)
+    (h : List Entry) : Type 0 where
   pub legal : HasLegalHistory status taken h
   pub read : HasRead before now status taken at_end h
   pub written : HasWritten old new f g status h
@@ -317,10 +329,13 @@ pub record Told (before now : Option (List ℕ)) (r s : ℕ) (old new : Option (
   pub too_long : HasTooLongCause status taken at_end h
   pub complete : HasCompleteness before r s f g status taken at_end h
 
-legal-closed : (status taken : ℕ) (h : List Entry) → Legal h → (place h).closed ≡ false
+legal-closed : (status taken : ℕ) (h : List Entry) → Legal h → (standing h).closed ≡ false
     → HasLegalHistory status taken (h ++ Close ∷ [])
-legal-closed status taken [] l o = (legal-grown start [] Close l o, ap (λ (p : Place). p.closed) (place-grown start [] Close))
-legal-closed status taken (e ∷ es) l o = (legal-grown start (e ∷ es) Close l o, ap (λ (p : Place). p.closed) (place-grown start (e ∷ es) Close))
+legal-closed status taken [] l o = (legal-grown start [] Close l o, ap (λ (p : Standing). p.closed) (standing-grown start [] Close))
+legal-closed status taken (e ∷ es) l o = (
+  legal-grown start (e ∷ es) Close l o,
+  ap (λ (p : Standing). p.closed) (standing-grown start (e ∷ es) Close),
+)
 
 -- a closed history isn't empty
 pub closed-some : (h : List Entry) → h ++ Close ∷ [] ≡ [] → ⊥
@@ -330,8 +345,8 @@ closed-some (x ∷ xs) e = absurd (cc)
 render-closed : (h : List Entry) → render (h ++ Close ∷ []) ≡ render h
 render-closed h = render-grown h Close ∙ append-nil (render h)
 
-quit-closed : (h : List Entry) → (place (h ++ Close ∷ [])).quit ≡ (place h).quit
-quit-closed h = ap (λ (p : Place). p.quit) (place-grown start h Close)
+quit-closed : (h : List Entry) → (standing (h ++ Close ∷ [])).quit ≡ (standing h).quit
+quit-closed h = ap (λ (p : Standing). p.quit) (standing-grown start h Close)
 
 completed : (before : Option (List ℕ)) (r s f g status taken : ℕ) (at_end : Bool) (h : List Entry) → IsStatus status
     → (status ≡ READ_FAULT → Rose r s) → (status ≡ WRITE_FAULT → Rose f g)
@@ -339,55 +354,65 @@ completed : (before : Option (List ℕ)) (r s f g status taken : ℕ) (at_end : 
     → (any_short h ≡ false → AllWhole (outcomes h))
     → (status ≡ DONE → IsQuit h ⊎ (at_end ≡ true)) → (status ≡ TRUNCATED → at_end ≡ true) → (status ≡ TOO_LONG → IsTooLong taken at_end h)
     → HasCompleteness before r s f g status taken at_end h
-completed before r s f g status taken at_end h (inl e) reads writes all whole done cut long sr sf = inr (inr (record { all = all (inl e); whole = whole; which = inl (e, done e) }))
-completed before r s f g status taken at_end h (inr (inl e)) reads writes all whole done cut long sr sf = absurd (let rose : Rose r s = reads e in omega arith)
-completed before r s f g status taken at_end h (inr (inr (inl e))) reads writes all whole done cut long sr sf = absurd (let rose : Rose f g = writes e in omega arith)
+completed before r s f g status taken at_end h (inl e) reads writes all whole done cut long sr sf =
+    inr (inr (record { all = all (inl e); whole = whole; which = inl (e, done e) }))
+completed before r s f g status taken at_end h (inr (inl e)) reads writes all whole done cut long sr sf =
+    absurd (let rose : Rose r s = reads e in omega arith)
+completed before r s f g status taken at_end h (inr (inr (inl e))) reads writes all whole done cut long sr sf =
+    absurd (let rose : Rose f g = writes e in omega arith)
 completed before r s f g status taken at_end h (inr (inr (inr (inl e)))) reads writes all whole done cut long sr sf = inr (inl e)
-completed before r s f g status taken at_end h (inr (inr (inr (inr (inl e))))) reads writes all whole done cut long sr sf = inr (inr (record { all = all (inr (inr (inl e))); whole = whole; which = inr (inl (e, cut e)) }))
-completed before r s f g status taken at_end h (inr (inr (inr (inr (inr e))))) reads writes all whole done cut long sr sf = inr (inr (record { all = all (inr (inr (inr e))); whole = whole; which = inr (inr (e, long e)) }))
+completed before r s f g status taken at_end h (inr (inr (inr (inr (inl e))))) reads writes all whole done cut long sr sf =
+    inr (inr (record { all = all (inr (inr (inl e))); whole = whole; which = inr (inl (e, cut e)) }))
+completed before r s f g status taken at_end h (inr (inr (inr (inr (inr e))))) reads writes all whole done cut long sr sf =
+    inr (inr (record { all = all (inr (inr (inr e))); whole = whole; which = inr (inr (e, long e)) }))
 
 clean-from : (status f g : ℕ) (failed : Bool) → (IsAnswered status → failed ≡ false) → (failed ≡ true → Rose f g)
     → Stood f g ⊎ IsAnswered status → failed ≡ false
 clean-from status f g failed a r (inl h) = not-failed failed f g h r
 clean-from status f g failed a r (inr h) = a h
 
-first-closed : (before : Option (List ℕ)) (n : ℕ) (e : Bool) (k : List Entry) → IfSome before (λ all. Begins (requests_in (take n all) e) k)
+first-closed : (before : Option (List ℕ)) (n : ℕ) (e : Bool) (k : List Entry)
+    → IfSome before (λ all. Begins (requests k) (requests_in (take n all) e))
     → IfSome before (λ all. take (length (requests (k ++ Close ∷ []))) (requests_in (take n all) e) ≡ requests (k ++ Close ∷ []))
 first-closed before n e k b =
     mapped before _ (λ all. take (length (requests (k ++ Close ∷ []))) (requests_in (take n all) e) ≡ requests (k ++ Close ∷ []))
-    (λ all f. ap (λ q. take (length q) (requests_in (take n all) e)) (requests-closed k) ∙ ap (take (length (requests k))) f.1 ∙ take-append_seam (requests k) f.0 ∙ sym (requests-closed k)) b
+    (λ all f. ap (λ q. take (length q) (requests_in (take n all) e)) (requests-closed k) ∙ ap (take (length (requests k))) f.1
+    ∙ take-append_seam (requests k) f.0 ∙ sym (requests-closed k)) b
 
 all-closed : (before : Option (List ℕ)) (n : ℕ) (e : Bool) (k : List Entry) → IsAll before n e k → IsAll before n e (k ++ Close ∷ [])
-all-closed before n e k a = mapped before _ (λ all. requests (k ++ Close ∷ []) ≡ requests_in (take n all) e) (λ all f. requests-closed k ∙ f) a
+all-closed before n e k a = mapped before _ (λ all. requests (k ++ Close ∷ []) ≡ requests_in (take n all) e) (λ all f. requests-closed k
+    ∙ f) a
 
-clean-closed : (all : List ℕ) (n : ℕ) (e : Bool) (h k : List Entry) → (place k).quit ≡ (place h).quit → IsClean all n e h → IsClean all n e k
+clean-closed : (all : List ℕ) (n : ℕ) (e : Bool) (h k : List Entry) → (standing k).quit ≡ (standing h).quit → IsClean all n e h
+    → IsClean all n e k
 clean-closed all n e h k q c = record { ended = c.ended; no_quit = q ∙ c.no_quit; clean = c.clean }
 
-truncated-closed : (all : List ℕ) (n : ℕ) (e : Bool) (h k : List Entry) → (place k).quit ≡ (place h).quit → IsTruncated all n e h → IsTruncated all n e k
+truncated-closed : (all : List ℕ) (n : ℕ) (e : Bool) (h k : List Entry) → (standing k).quit ≡ (standing h).quit → IsTruncated all n e h
+    → IsTruncated all n e k
 truncated-closed all n e h k q c = record { ended = c.ended; no_quit = q ∙ c.no_quit; inside = c.inside }
 
-long-closed : (n : ℕ) (e : Bool) (h k : List Entry) → (place k).quit ≡ (place h).quit → IsTooLong n e h → IsTooLong n e k
+long-closed : (n : ℕ) (e : Bool) (h k : List Entry) → (standing k).quit ≡ (standing h).quit → IsTooLong n e h → IsTooLong n e k
 long-closed n e h k q c = record { full = c.full; going_on = c.going_on; no_quit = q ∙ c.no_quit }
 
-done-closed : (before : Option (List ℕ)) (n : ℕ) (e : Bool) (h k : List Entry) → (place k).quit ≡ (place h).quit
+done-closed : (before : Option (List ℕ)) (n : ℕ) (e : Bool) (h k : List Entry) → (standing k).quit ≡ (standing h).quit
     → IsQuit h ⊎ IfSome before (λ all. IsClean all n e h) → IsQuit k ⊎ IfSome before (λ all. IsClean all n e k)
 done-closed before n e h k q (inl d) = inl (q ∙ d)
 done-closed before n e h k q (inr d) = inr (mapped before _ (λ all. IsClean all n e k) (λ all c. clean-closed all n e h k q c) d)
 
-which-closed : (e : Bool) (h k : List Entry) → (place k).quit ≡ (place h).quit → IsQuit h ⊎ (e ≡ true) → IsQuit k ⊎ (e ≡ true)
+which-closed : (e : Bool) (h k : List Entry) → (standing k).quit ≡ (standing h).quit → IsQuit h ⊎ (e ≡ true) → IsQuit k ⊎ (e ≡ true)
 which-closed e h k q (inl d) = inl (q ∙ d)
 which-closed e h k q (inr d) = inr d
 
-told : (before now : Option (List ℕ)) (r s n : ℕ) (at_end : Bool) (stop : Stop) (k : List Entry) (o : Output)
-    → Served before now r s n at_end stop k o → (o.failed ≡ true → Rose o.first_faults o.faults) → Legal k → (place k).closed ≡ false
+told : {before now : Option (List ℕ)} {r s n : ℕ} {at_end : Bool} {stop : Stop} {k : List Entry} {o : Output}
+    → Served before now r s n at_end stop k o → (o.failed ≡ true → Rose o.first_faults o.faults) → Legal k → (standing k).closed ≡ false
     → IsPut (fresh o) (render k) o
     → Told before now r s o.first_written o.written o.first_faults o.faults (status_of stop) n at_end (k ++ Close ∷ [])
-told before now r s n e stop k o served cause legal going put =
+told {before} {now} {r} {s} {n} {at_end = e} {stop} {k} {o} served cause legal going put =
     let h = k ++ Close ∷ [] in
     let status = status_of stop in
     let f : Facts before r s n e status k o = facts stop before r s n e k o served.stopped in
     let legal_h : Legal h = legal-grown start k Close legal going in
-    let same : (place h).quit ≡ (place k).quit = quit-closed k in
+    let same : (standing h).quit ≡ (standing k).quit = quit-closed k in
     let all_h : IsAnswered status → IsAll before n e h = λ a. all-closed before n e k (f.whole a) in
     let long_h : status ≡ TOO_LONG → IsTooLong n e h = λ d. long-closed n e k h same (f.long_only d) in
     record {
@@ -403,7 +428,8 @@ told before now r s n e stop k o served cause legal going put =
         limit = served.limit;
       };
       written = record {
-        whole = λ w. rw (render-closed k) (written-all false o.failed _ _ _ refl (clean-from status o.first_faults o.faults o.failed f.clean cause w) put.grew);
+        whole = λ w. rw (render-closed k) (written-all false o.failed _ _ _ refl
+            (clean-from status o.first_faults o.faults o.failed f.clean cause w) put.grew);
         prefix = rw (render-closed k) (written-prefix o.failed _ _ _ put.grew);
       };
       one_thread = one_thread start h legal_h;
@@ -411,25 +437,37 @@ told before now r s n e stop k o served cause legal going put =
       done = record {
         only = λ d. done-closed before n e k h same (f.done_only d);
         at_quit = λ q. f.at_quit (sym same ∙ q);
-        at_clean = mapped before _ (λ all. IsClean all n e h → IsOrLost status DONE) (λ all g c. g (clean-closed all n e h k (sym same) c)) f.at_clean;
+        at_clean = mapped before _ (λ all. IsClean all n e h
+            → IsOrLost status DONE) (λ all g c. g (clean-closed all n e h k (sym same) c)) f.at_clean;
       };
       read_fault = record { only = f.read_fault; passed = f.reads };
       write_fault = record { only = f.write_fault; passed = λ a. put.passed (f.clean a) };
       truncated = record {
         only = λ d. mapped before _ (λ all. IsTruncated all n e h) (λ all t. truncated-closed all n e k h same t) (f.truncated_only d);
-        always = mapped before _ (λ all. IsTruncated all n e h → IsOrLost status TRUNCATED) (λ all g t. g (truncated-closed all n e h k (sym same) t)) f.truncated_always;
+        always = mapped before _ (λ all. IsTruncated all n e h
+            → IsOrLost status TRUNCATED) (λ all g t. g (truncated-closed all n e h k (sym same) t)) f.truncated_always;
       };
       too_long = record { only = long_h; always = λ l. f.long_always (long-closed n e h k (sym same) l) };
-      complete = completed before r s o.first_faults o.faults status n e h f.known f.read_fault f.write_fault all_h (all_whole start h legal_h)
+      complete = completed before r s o.first_faults o.faults status n e h f.known f.read_fault f.write_fault all_h
+          (all_whole start h legal_h)
           (λ d. which-closed e k h same (f.done_which d)) f.truncated_end long_h;
     }
 
--- the same, as the code comes to it
-pub told-is : (before now : Option (List ℕ)) (r s n : ℕ) (at_end : Bool) (stop : Stop) (k : List Entry) (o : Output)
-    (old new : Option (List ℕ)) (f g status : ℕ) (h : List Entry)
-    → Served before now r s n at_end stop k o → (o.failed ≡ true → Rose o.first_faults o.faults) → Legal k → (place k).closed ≡ false
+-- what the code holds at its end: the sink's bytes and its count, as `new` got it and now, the status, and the closed history
+pub record IsClosed (o : Output) (stop : Stop) (k : List Entry) (old new : Option (List ℕ)) (f g status : ℕ) (h : List Entry) : Type 0 where
+  pub first_written : old ≡ o.first_written
+  pub written : new ≡ o.written
+  pub first_faults : f ≡ o.first_faults
+  pub faults : g ≡ o.faults
+  pub status_is : status ≡ status_of stop
+  pub entries : h ≡ k ++ Close ∷ []
+
+-- the same of what the code holds
+pub told-is : {before now : Option (List ℕ)} {r s n : ℕ} {at_end : Bool} {stop : Stop} {k : List Entry} {o : Output}
+    {old new : Option (List ℕ)} {f g status : ℕ} {h : List Entry}
+    → Served before now r s n at_end stop k o → (o.failed ≡ true → Rose o.first_faults o.faults) → Legal k → (standing k).closed ≡ false
     → IsPut (fresh o) (render k) o
-    → old ≡ o.first_written → new ≡ o.written → f ≡ o.first_faults → g ≡ o.faults → status ≡ status_of stop → h ≡ k ++ Close ∷ []
+    → IsClosed o stop k old new f g status h
     → Told before now r s old new f g status n at_end h
-told-is before now r s n at_end stop k o old new f g status h served cause legal going put a b c d e entries =
-    rw (a, b, c, d, e, entries) (told before now r s n at_end stop k o served cause legal going put)
+told-is served cause legal going put c =
+    rw (c.first_written, c.written, c.first_faults, c.faults, c.status_is, c.entries) (told served cause legal going put)

@@ -1,4 +1,3 @@
 pub mod Grown
 pub mod Progress
 pub mod Closed
-pub mod Shorts

@@ -1,5 +1,6 @@
 -- What the one-thread document answers: a document, requests in order, and how far memory lets each of them go.
-use Rattle.std.specs.Prelude.{ℕ, ◌+◌, ◌≤◌, ◌&&◌, List, [], ◌∷◌, ◌++◌, length, Bool, true, not, nat_lt, nat_le, if◌then◌else◌, Option, None, is_some, Result, Ok, Err, codes}
+use Rattle.std.specs.Prelude.{ℕ, ◌+◌, ◌≤◌, ◌&&◌, List, [], ◌∷◌, ◌++◌, length, Bool, true, not, nat_lt, nat_le, if◌then◌else◌, Option}
+use Rattle.std.specs.Prelude.{None, is_some, Result, Ok, Err, codes}
 use Rattle.std.specs.List.{list_all}
 use Rattle.vern_step.specs.Parameter.{parameter_of}
 use Rattle.vern_step.specs.declared.parameter.FirstFault.{FirstFault}
@@ -21,11 +22,12 @@ use Rattle.serapi_ans.specs.declared.line.BadText.TheVariants.{Word, BadField}
 use Rattle.session_run.specs.declared.cut.Cut.{Cut}
 use Rattle.session_run.specs.declared.cut.Cut.TheVariants.{Whole, After}
 
--- a document is the names that were declared, in order. The state with the id 1 is the empty document, and the name at place k
+-- a document is the names that were declared, in order. The state with the id 1 is the empty document, and the name number k
 -- of the list, counted from 0, makes the state with the id k + 2
 abbrev pub Document : Type 0
 Document = List (List ℕ)
 
+-- the id of the next sentence
 abbrev pub next_id : Document → ℕ
 next_id d = length d + 2
 
@@ -50,10 +52,12 @@ abbrev pub names_of_reading : Result (List ℕ) FirstFault → List (List ℕ)
 names_of_reading (Ok name) = name ∷ []
 names_of_reading (Err refused) = []
 
+-- the names that the steps of a command declare
 abbrev pub names_of_command : Command → List (List ℕ)
 names_of_command (command.Add opts text) = if is_simple opts then names_of_reading (reading_of text) else []
 names_of_command other = []
 
+-- the names that the steps of a request declare
 abbrev pub names_of : Request → List (List ℕ)
 names_of (Do t) = names_of_command t.command
 names_of (Bad b) = []
@@ -99,10 +103,12 @@ lines_of_reading d tag end (Err r) cut = refused tag (refusal_of r) cut
 
 -- what is answered to a command between its first line and its last ones
 abbrev pub command_lines : Document → List ℕ → Command → Cut → List Line
-command_lines d tag (command.Add opts text) cut = if is_simple opts then lines_of_reading d tag (length text) (reading_of text) cut else refused tag exn.Unsupported cut
+command_lines d tag (command.Add opts text) cut =
+    if is_simple opts then lines_of_reading d tag (length text) (reading_of text) cut else refused tag exn.Unsupported cut
 command_lines d tag command.Quit cut = []
 command_lines d tag other cut = refused tag exn.Unsupported cut
 
+-- the lines that end what a command is answered
 abbrev pub last_lines : List ℕ → Cut → List Line
 last_lines tag Whole = line.Completed tag ∷ []
 last_lines tag (After n) = line.OutOfMemory tag ∷ line.Completed tag ∷ []
@@ -121,10 +127,11 @@ bad_text input.BadNumber = Word (codes "BadNumber")
 -- all lines of a request
 abbrev pub request_lines : Document → Request → Cut → List Line
 request_lines d (Do t) cut = line.Ack t.tag ∷ command_lines d t.tag t.command cut ++ last_lines t.tag cut
-request_lines d (Bad b) cut = line.BadInput b.place (bad_text b.kind) b.position ∷ []
+request_lines d (Bad b) cut = line.BadInput b.number (bad_text b.kind) b.offset ∷ []
 
 -- ---- the answer to a request
 
+-- the names of the steps that are done
 abbrev pub done_names : Request → Cut → List (List ℕ)
 done_names q cut = if is_begun cut then names_of q else []
 
@@ -133,6 +140,7 @@ pub record Answer : Type 0 where
   pub document : Document
   pub lines : List Line
 
+-- what a request is answered on a document
 abbrev pub answer : Document → Request → Cut → Answer
 answer d q cut = record { document = d ++ done_names q cut; lines = request_lines d q cut }
 
@@ -142,5 +150,6 @@ answers_from d [] cuts = []
 answers_from d (q ∷ qs) [] = []
 answers_from d (q ∷ qs) (cut ∷ cuts) = lines_text (answer d q cut).lines ++ answers_from (answer d q cut).document qs cuts
 
+-- what is written for requests with these outcomes
 abbrev pub answers : List Request → List Cut → List ℕ
 answers qs cuts = answers_from [] qs cuts

@@ -17,7 +17,7 @@ use Rattle.serapi_ans.specs.declared.line.Line.TheVariants as line
 use Rattle.serapi_cmd.specs.Requests.{input_end}
 use Rattle.session_run.specs.Items.{requests_in}
 use Rattle.session_run.specs.Answers.{answers}
-use Rattle.session_run.specs.Histories.{place, Legal, render, requests, outcomes}
+use Rattle.session_run.specs.Histories.{standing, Legal, render, requests, outcomes}
 use Rattle.session_run.specs.declared.cut.Cut.{Cut}
 use Rattle.session_run.specs.declared.cut.Cut.TheVariants.{Whole}
 use Rattle.session_run.specs.declared.history.Entry.{Entry}
@@ -44,7 +44,7 @@ pub record HasWords {A : Type 0} (words : List A) (status taken : ℕ) (h : List
 -- was taken, and the status is 2 for the words or 5 for want of memory before the document was made
 abbrev pub HasLegalHistory : ℕ → ℕ → List Entry → Type 0
 HasLegalHistory status taken [] = (taken ≡ 0) × ((status ≡ BAD_WORDS) ⊎ (status ≡ NO_MEMORY))
-HasLegalHistory status taken (e ∷ es) = Legal (e ∷ es) × ((place (e ∷ es)).closed ≡ true)
+HasLegalHistory status taken (e ∷ es) = Legal (e ∷ es) × ((standing (e ∷ es)).closed ≡ true)
 
 -- ---- read
 
@@ -65,7 +65,7 @@ pub record HasRead (before now : Option (List ℕ)) (status taken : ℕ) (at_end
   pub first : IfSome before (λ all. take (length (requests h)) (requests_in (take taken all) at_end) ≡ requests h)
   pub whole : IsAnswered status → IfSome before (λ all. requests h ≡ requests_in (take taken all) at_end)
   pub nothing_left : at_end ≡ true → IsAtEnd now
-  pub ended : status ≡ DONE → (place h).quit ≡ false → at_end ≡ true
+  pub ended : status ≡ DONE → (standing h).quit ≡ false → at_end ≡ true
   pub truncated_end : status ≡ TRUNCATED → at_end ≡ true
   pub not_ended : (status ≡ READ_FAULT) ⊎ (status ≡ TOO_LONG) → at_end ≡ false
   pub limit : taken ≤ INPUT_LIMIT
@@ -90,31 +90,32 @@ abbrev pub EndsClean : InputEnd → Type 0
 EndsClean Clean = Unit {0}
 EndsClean (Truncated p) = ⊥
 
+-- the input ends inside of an item
 abbrev pub EndsInside : InputEnd → Type 0
 EndsInside Clean = ⊥
 EndsInside (Truncated p) = Unit {0}
 
 -- Quit was read
 abbrev pub IsQuit : List Entry → Type 0
-IsQuit h = (place h).quit ≡ true
+IsQuit h = (standing h).quit ≡ true
 
 -- the input ended with B, and with neither a Quit nor an item that isn't whole
 pub record IsClean (all : List ℕ) (taken : ℕ) (at_end : Bool) (h : List Entry) : Type 0 where
   pub ended : at_end ≡ true
-  pub no_quit : (place h).quit ≡ false
+  pub no_quit : (standing h).quit ≡ false
   pub clean : EndsClean (input_end (take taken all))
 
 -- the input ended with B, inside of an item, and there was no Quit
 pub record IsTruncated (all : List ℕ) (taken : ℕ) (at_end : Bool) (h : List Entry) : Type 0 where
   pub ended : at_end ≡ true
-  pub no_quit : (place h).quit ≡ false
+  pub no_quit : (standing h).quit ≡ false
   pub inside : EndsInside (input_end (take taken all))
 
 -- the limit was taken with neither the end nor a Quit
 pub record IsTooLong (taken : ℕ) (at_end : Bool) (h : List Entry) : Type 0 where
   pub full : taken ≡ INPUT_LIMIT
   pub going_on : at_end ≡ false
-  pub no_quit : (place h).quit ≡ false
+  pub no_quit : (standing h).quit ≡ false
 
 -- the status is this one, or a write failed or memory was wanting before
 abbrev pub IsOrLost : ℕ → ℕ → Type 0
@@ -148,10 +149,12 @@ pub record HasTooLongCause (status taken : ℕ) (at_end : Bool) (h : List Entry)
 
 -- there is no other status of a session than 0, 3, 4, 5, 6 and 7
 abbrev pub IsStatus : ℕ → Type 0
-IsStatus status = (status ≡ DONE) ⊎ ((status ≡ READ_FAULT) ⊎ ((status ≡ WRITE_FAULT) ⊎ ((status ≡ NO_MEMORY) ⊎ ((status ≡ TRUNCATED) ⊎ (status ≡ TOO_LONG)))))
+IsStatus status = (status ≡ DONE) ⊎ ((status ≡ READ_FAULT)
+    ⊎ ((status ≡ WRITE_FAULT) ⊎ ((status ≡ NO_MEMORY) ⊎ ((status ≡ TRUNCATED) ⊎ (status ≡ TOO_LONG)))))
 
 -- ---- completeness
 
+-- no request was cut
 abbrev pub AllWhole : List Cut → Type 0
 AllWhole [] = Unit {0}
 AllWhole (cut ∷ cuts) = (cut ≡ Whole) × AllWhole cuts
@@ -161,10 +164,12 @@ abbrev pub is_short : Line → Bool
 is_short (line.OutOfMemory tag) = true
 is_short other = false
 
+-- one of the lines says that memory was wanting
 abbrev pub has_short : List Line → Bool
 has_short [] = false
 has_short (l ∷ ls) = is_short l || has_short ls
 
+-- one of the entries has such a line
 abbrev pub any_short : List Entry → Bool
 any_short [] = false
 any_short (Command n q cut ls ∷ es) = has_short ls || any_short es
@@ -174,9 +179,11 @@ any_short (Close ∷ es) = any_short es
 pub record IsComplete (before : Option (List ℕ)) (status taken : ℕ) (at_end : Bool) (h : List Entry) : Type 0 where
   pub all : IfSome before (λ all. requests h ≡ requests_in (take taken all) at_end)
   pub whole : any_short h ≡ false → AllWhole (outcomes h)
-  pub which : ((status ≡ DONE) × (IsQuit h ⊎ (at_end ≡ true))) ⊎ (((status ≡ TRUNCATED) × (at_end ≡ true)) ⊎ ((status ≡ TOO_LONG) × IsTooLong taken at_end h))
+  pub which : ((status ≡ DONE) × (IsQuit h ⊎ (at_end ≡ true)))
+      ⊎ (((status ≡ TRUNCATED) × (at_end ≡ true)) ⊎ ((status ≡ TOO_LONG) × IsTooLong taken at_end h))
 
 -- COMPLETENESS. Where neither count rose and the status is neither 2 nor 5, the answers are complete
 abbrev pub HasCompleteness : Option (List ℕ) → ℕ → ℕ → ℕ → ℕ → ℕ → ℕ → Bool → List Entry → Type 0
 HasCompleteness before old_reads new_reads old_writes new_writes status taken at_end h =
-    Stood old_reads new_reads → Stood old_writes new_writes → (status ≡ BAD_WORDS) ⊎ ((status ≡ NO_MEMORY) ⊎ IsComplete before status taken at_end h)
+    Stood old_reads new_reads → Stood old_writes new_writes → (status ≡ BAD_WORDS)
+    ⊎ ((status ≡ NO_MEMORY) ⊎ IsComplete before status taken at_end h)

@@ -11,56 +11,65 @@ use Rattle.session_run.specs.declared.history.Entry.{Entry}
 use Rattle.session_run.specs.declared.history.Entry.TheVariants.{Command, Close}
 
 -- where a history stands: its document, how many Commands there were, whether the last was Quit, and whether it is closed
-pub record Place : Type 0 where
+pub record Standing : Type 0 where
   pub document : Document
   pub commands : ℕ
   pub quit : Bool
   pub closed : Bool
 
-abbrev pub start : Place
+-- where the empty history stands
+abbrev pub start : Standing
 start = record { document = []; commands = 0; quit = false; closed = false }
 
--- the place behind an entry
-abbrev pub step : Place → Entry → Place
-step p (Command n q cut ls) = record { document = (answer p.document q cut).document; commands = p.commands + 1; quit = is_quit q; closed = p.closed }
+-- where a history stands behind an entry
+abbrev pub step : Standing → Entry → Standing
+step p (Command n q cut ls) = record {
+  document = (answer p.document q cut).document;
+  commands = p.commands + 1;
+  quit = is_quit q;
+  closed = p.closed;
+}
 step p Close = record { document = p.document; commands = p.commands; quit = p.quit; closed = true }
 
 -- a bad item knows its number
 abbrev pub IsNumbered : ℕ → Request → Type 0
 IsNumbered n (Do t) = Unit {0}
-IsNumbered n (Bad b) = b.place ≡ n
+IsNumbered n (Bad b) = b.number ≡ n
 
--- what a place asks of a Command: it isn't closed, there was no Quit, the entry has the number of the Commands before, the request may
+-- what a standing asks of a Command: it isn't closed, there was no Quit, the entry has the number of the Commands before, the request may
 -- be cut so, and the lines are its answer
-pub record IsCommand (p : Place) (n : ℕ) (q : Request) (cut : Cut) (ls : List Line) : Type 0 where
+pub record IsCommand (p : Standing) (n : ℕ) (q : Request) (cut : Cut) (ls : List Line) : Type 0 where
   pub going : p.closed ≡ false
   pub no_quit : p.quit ≡ false
-  pub place : n ≡ p.commands
+  pub number : n ≡ p.commands
   pub numbered : IsNumbered p.commands q
   pub may : MayBe q cut
   pub lines : ls ≡ (answer p.document q cut).lines
 
--- what a place asks of an entry
-abbrev pub Asks : Place → Entry → Type 0
+-- what a standing asks of an entry
+abbrev pub Asks : Standing → Entry → Type 0
 Asks p (Command n q cut ls) = IsCommand p n q cut ls
 Asks p Close = p.closed ≡ false
 
-abbrev pub place_from : Place → List Entry → Place
-place_from p [] = p
-place_from p (e ∷ es) = place_from (step p e) es
+-- what a history leads to from a standing on
+abbrev pub standing_from : Standing → List Entry → Standing
+standing_from p [] = p
+standing_from p (e ∷ es) = standing_from (step p e) es
 
--- the place that a history makes from the start
-abbrev pub place : List Entry → Place
-place h = place_from start h
+-- where a history stands
+abbrev pub standing : List Entry → Standing
+standing h = standing_from start h
 
-abbrev pub LegalFrom : Place → List Entry → Type 0
+-- from a standing on, each entry is one that is asked for
+abbrev pub LegalFrom : Standing → List Entry → Type 0
 LegalFrom p [] = Unit {0}
 LegalFrom p (e ∷ es) = Asks p e × LegalFrom (step p e) es
 
--- each entry is one that its place asks for
+-- each entry is one that is asked for where it stands
 abbrev pub Legal : List Entry → Type 0
 Legal h = LegalFrom start h
 
+-- the bytes of the lines of an entry
 abbrev pub rendered : Entry → List ℕ
 rendered (Command n q cut ls) = lines_text ls
 rendered Close = []

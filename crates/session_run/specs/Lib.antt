@@ -4,4 +4,3 @@ pub mod Histories
 pub mod Headline
 pub mod Plans
 pub mod Serving
-pub mod Kept

@@ -12,6 +12,7 @@ use Rattle.session_run.specs.declared.cut.Cut.{Cut}
 use Rattle.session_run.specs.declared.plan.Reply.{Reply}
 use Rattle.session_run.specs.declared.plan.Reply.TheVariants.{Added, Parse, Unsupported}
 
+-- the list of what is there
 abbrev pub listed : {A : Type 0} → Option A → List A
 listed None = []
 listed (Some x) = x ∷ []
@@ -20,6 +21,7 @@ listed (Some x) = x ∷ []
 abbrev no_tip : Option ℕ
 no_tip = None
 
+-- the lines that a reply is
 abbrev pub lines_of : List ℕ → Option Reply → List Line
 lines_of tag None = []
 lines_of tag (Some (Added id end)) = line.Added tag id 0 end no_tip ∷ []

@@ -3,13 +3,14 @@ ghost use Rattle.std.specs.Prelude.{◌≡◌, ◌+◌, ◌<◌, [], ◌∷◌, 
 ghost use Rattle.std.specs.Option.{ForSome};
 ghost use Rattle.stm_base.specs.Counts.{Rose};
 ghost use Rattle.stm_base.specs.Output.{IsPut, fresh};
-ghost use Rattle.session_run.specs.Histories.{IsNumbered, Legal, place, render};
+ghost use Rattle.session_run.specs.Histories.{IsNumbered, Legal, standing, render};
 ghost use Rattle.session_run.specs.Plans.{listed};
 ghost use Rattle.session_run.specs.Serving.{Continues, asked};
 
 use crate::cut::Cut;
 use crate::document::Document;
 use crate::history::{Entry, History};
+use crate::lines::put_lines;
 use crate::plan::{Planned, plan_request};
 use base_core::{Bytes, NoMemory};
 use serapi_cmd::Request;
@@ -26,13 +27,13 @@ pub struct Live<K: Sink> {
 }
 
 impl<K: Sink> Model for Live<K> {
-    ghost use Rattle.session_run.specs.Serving.{Standing, IsKept};
+    ghost use Rattle.session_run.specs.Serving.{Session, IsKept};
 
-    ghost Value = { Standing };
+    ghost Value = { Session };
 
-    ghost view = { λ l. record { entries = l.history.entries; output = l.out } };
+    ghost view = { λ l. record { entries = l.history.items; output = l.out } };
 
-    ghost invariant = { λ l. IsKept l.history.entries l.history.spare l.document.names l.out };
+    ghost invariant = { λ l. IsKept l.history.items l.history.spare l.document.items l.out };
 }
 
 impl<K: Sink> Live<K> {
@@ -55,29 +56,29 @@ impl<K: Sink> Live<K> {
         })
     }
 
-    /// The place of the next request, counted from 0.
-    pub fn next_place(&self) -> u64
-        ensures { result ≡ (place self.now.entries).commands }
+    /// The number of the next request, counted from 0.
+    pub fn next_number(&self) -> u64
+        ensures { result ≡ (standing self.now.entries).commands }
     {
-        self.history.len()
+        self.history.len() as u64
     }
 
     /// Answers a request as far as memory lasts. What may be refused for want of memory is asked for before
     /// anything changes.
     pub fn command(&mut self, alloc: Global, request: Request) -> Result<Cut, NoMemory>
-        requires going { (place self.old.entries).quit ≡ false }
-        requires numbered { IsNumbered (place self.old.entries).commands request }
-        ensures ok { IfOk result (λ cut. self.new.entries ≡ self.old.entries ++ asked (place self.old.entries) request cut ∷ []) }
+        requires going { (standing self.old.entries).quit ≡ false }
+        requires numbered { IsNumbered (standing self.old.entries).commands request }
+        ensures ok { IfOk result (λ cut. self.new.entries ≡ self.old.entries ++ asked (standing self.old.entries) request cut ∷ []) }
         ensures err { OnErr result (self.new ≡ self.old) }
         ensures output { Continues self.old.output self.new.output }
     {
-        let place = self.history.len();
+        let number = self.history.len() as u64;
         let Planned { cut, name, lines } = plan_request(alloc, &mut self.document, &request)?;
         self.history.reserve(2)?;
-        lines.put(&mut self.out);
+        put_lines(lines.as_slice(), &mut self.out);
         store(&mut self.document, name);
         self.history.push_reserved(Entry::Command {
-            place,
+            number,
             request,
             cut,
             lines,
@@ -95,9 +96,9 @@ impl<K: Sink> Live<K> {
 
     /// Ends the history, without memory.
     pub fn close(self) -> (K, History)
-        ensures entries { result.1.entries ≡ self.entries ++ Entry.Close ∷ [] }
+        ensures entries { result.1.items ≡ self.entries ++ Entry.Close ∷ [] }
         ensures legal { Legal self.entries }
-        ensures not_closed { (place self.entries).closed ≡ false }
+        ensures not_closed { (standing self.entries).closed ≡ false }
         ensures put { IsPut (fresh self.output) (render self.entries) self.output }
         ensures written { K.written result.0 ≡ self.output.written }
         ensures faults { K.faults result.0 ≡ self.output.faults }
@@ -116,7 +117,7 @@ impl<K: Sink> Live<K> {
 /// Adds the name, where there is one.
 fn store(document: &mut Document, name: Option<Bytes>)
     requires { ForSome name (λ _. 0 < document.old.spare) }
-    ensures { document.new.names ≡ document.old.names ++ listed name }
+    ensures { document.new.items ≡ document.old.items ++ listed name }
 {
     if let Some(name) = name {
         document.push_reserved(name);

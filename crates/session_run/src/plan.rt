@@ -9,7 +9,7 @@ ghost use Rattle.session_run.specs.Plans.{IsPlan, IsPlanned, IsRead, lines_of};
 use crate::cut::Cut;
 use crate::document::Document;
 use crate::lines::Lines;
-use base_core::{Bytes, NoMemory};
+use base_core::{Bytes, NoMemory, SharedBytes};
 use serapi_ans::{BadText, Exn, Line};
 use serapi_cmd::{AddOpts, BadLine, Command, InputFault, Request};
 use std::alloc::Global;
@@ -72,8 +72,8 @@ pub(crate) fn plan_request(
     document: &mut Document,
     request: &Request,
 ) -> Result<Planned, NoMemory>
-    ensures names { document.new.names ≡ document.old.names }
-    ensures plan { IfOk result (λ planned. IsPlanned document.old.names request.now planned.cut planned.name planned.lines) }
+    ensures names { document.new.items ≡ document.old.items }
+    ensures plan { IfOk result (λ planned. IsPlanned document.old.items request.now planned.cut planned.name planned.lines) }
     ensures room { IfOk result (λ planned. ForSome planned.name (λ _. 0 < document.new.spare)) }
 {
     match request {
@@ -92,8 +92,8 @@ pub(crate) fn plan_request(
 
 /// Plans the answer to a command.
 fn plan_command(alloc: Global, document: &mut Document, command: &Command) -> Plan
-    ensures names { document.new.names ≡ document.old.names }
-    ensures plan { IsPlan document.old.names command.now result.cut result.name result.reply }
+    ensures names { document.new.items ≡ document.old.items }
+    ensures plan { IsPlan document.old.items command.now result.cut result.name result.reply }
     ensures room { ForSome result.name (λ _. 0 < document.new.spare) }
 {
     match command {
@@ -109,17 +109,17 @@ fn plan_command(alloc: Global, document: &mut Document, command: &Command) -> Pl
 
 /// Plans the answer to an Add of a text.
 fn plan_add(alloc: Global, document: &mut Document, opts: AddOpts, text: &[u8]) -> Plan
-    ensures names { document.new.names ≡ document.old.names }
-    ensures plan { IsPlan document.old.names (command.Add opts text.now) result.cut result.name result.reply }
+    ensures names { document.new.items ≡ document.old.items }
+    ensures plan { IsPlan document.old.items (command.Add opts text.now) result.cut result.name result.reply }
     ensures room { ForSome result.name (λ _. 0 < document.new.spare) }
 {
     if !is_simple(opts) {
         return Plan::refused(Reply::Unsupported);
     }
-    match read_text(alloc, text) {
+    match read_sentence(alloc, text) {
         Ok(name) => {
-            let id = document.len() + 2;
-            match document.reserve() {
+            let id = document.as_slice().len() as u64 + 2;
+            match document.reserve(1) {
                 Ok(_) => Plan {
                     cut: Cut::Whole,
                     name: Some(name),
@@ -142,7 +142,7 @@ fn is_simple(opts: AddOpts) -> bool
 }
 
 /// Reads a text that is added.
-fn read_text(alloc: Global, text: &[u8]) -> Result<Bytes, FirstFault>
+fn read_sentence(alloc: Global, text: &[u8]) -> Result<Bytes, FirstFault>
     ensures { IsRead result (reading_of text.now) }
 {
     if !is_printed(text) {
@@ -158,28 +158,28 @@ fn is_printed(text: &[u8]) -> bool
     text.iter().all(|byte| matches!(*byte, b' '..=b'~'))
 }
 
-/// The lines of a planned answer. Each has a copy of the tag.
+/// The lines of a planned answer. They share the tag.
 fn answer_lines(
     alloc: Global,
-    tag: &Bytes,
+    tag: &SharedBytes,
     cut: Cut,
     reply: Option<Reply>,
 ) -> Result<Lines, NoMemory>
     ensures { IfOk result (λ lines. lines ≡ Line.Ack tag.now ∷ lines_of tag.now reply ++ last_lines tag.now cut) }
 {
     let mut lines = Lines::new(alloc);
-    lines.push(Line::Ack(copy(alloc, tag)?))?;
+    lines.push(Line::Ack(tag.share()?))?;
     if let Some(reply) = reply {
-        lines.push(reply_line(copy(alloc, tag)?, reply))?;
+        lines.push(reply_line(tag.share()?, reply))?;
     }
     if let Cut::After(_) = cut {
-        lines.push(Line::OutOfMemory(copy(alloc, tag)?))?;
+        lines.push(Line::OutOfMemory(tag.share()?))?;
     }
-    lines.push(Line::Completed(copy(alloc, tag)?))?;
+    lines.push(Line::Completed(tag.share()?))?;
     Ok(lines)
 }
 
-fn reply_line(tag: Bytes, reply: Reply) -> Line
+fn reply_line(tag: SharedBytes, reply: Reply) -> Line
     ensures { result ∷ [] ≡ lines_of tag (Some reply) }
 {
     match reply {
@@ -189,19 +189,13 @@ fn reply_line(tag: Bytes, reply: Reply) -> Line
     }
 }
 
-fn copy(alloc: Global, bytes: &Bytes) -> Result<Bytes, NoMemory>
-    ensures { IfOk result (λ copy. copy ≡ bytes.now) }
-{
-    Bytes::from_slice(alloc, bytes.as_slice())
-}
-
 /// The line of an item that is no command.
 fn bad_lines(alloc: Global, bad: &BadLine) -> Result<Lines, NoMemory>
-    ensures { IfOk result (λ lines. lines ≡ Line.BadInput bad.now.place (bad_text bad.now.kind) bad.now.position ∷ []) }
+    ensures { IfOk result (λ lines. lines ≡ Line.BadInput bad.now.number (bad_text bad.now.kind) bad.now.offset ∷ []) }
 {
     let text = fault_text(alloc, &bad.kind)?;
     let mut lines = Lines::new(alloc);
-    lines.push(Line::BadInput(bad.place, text, bad.position))?;
+    lines.push(Line::BadInput(bad.number, text, bad.offset))?;
     Ok(lines)
 }
 
@@ -216,7 +210,10 @@ fn fault_text(alloc: Global, kind: &InputFault) -> Result<BadText, NoMemory>
         InputFault::TooLong => "TooLong",
         InputFault::HashBar => "HashBar",
         InputFault::UnknownCommand => "UnknownCommand",
-        InputFault::BadField(name) => return Ok(BadText::BadField(copy(alloc, name)?)),
+        InputFault::BadField(name) => return Ok(BadText::BadField(Bytes::from_slice(
+            alloc,
+            name.as_slice(),
+        )?)),
         InputFault::BadNumber => "BadNumber",
     };
     Ok(BadText::Word(Bytes::from_slice(alloc, word.as_bytes())?))

@@ -2,12 +2,13 @@
 ghost use Rattle.std.specs.Prelude.{◌≡◌, ◌+◌, ◌≤◌, ◌<◌, ◌^◌, [], false, length, take, None, IfOk, OnErr};
 ghost use Rattle.std.specs.Io.KnownBytes.{Consumes, IsAtEnd, Keeps};
 ghost use Rattle.stm_base.specs.Counts.{HasCause};
-ghost use Rattle.sexp_theory.specs.Items.{end_offset, fed, most_bytes, taken};
-ghost use Rattle.sexp_core.specs.Reading.{item_meaning};
+ghost use Rattle.sexp_theory.specs.Items.{end_offset, fed, most_bytes, next_item};
+ghost use Rattle.sexp_core.specs.Readers.{item_meaning};
 ghost use Rattle.serapi_cmd.specs.Requests.{request_of};
-ghost use Rattle.session_run.specs.Histories.{place};
+ghost use Rattle.session_run.specs.Histories.{standing};
 ghost use Rattle.session_run.specs.Serving.{Continues, Finishes, IsIdle, Passes, Served, Takes, status_of as status_after, stop_after};
-ghost use Rattle.session_run.specs.Headline.{HasCompleteness, HasDoneCause, HasRead, HasReadFaultCause, HasTooLongCause, HasTruncatedCause, HasWriteFaultCause, HasWritten, HasLegalHistory, IsOneThread, IsStatus};
+ghost use Rattle.session_run.specs.Headline.{HasCompleteness, HasDoneCause, HasRead, HasReadFaultCause, HasTooLongCause};
+ghost use Rattle.session_run.specs.Headline.{HasTruncatedCause, HasWriteFaultCause, HasWritten, HasLegalHistory, IsOneThread, IsStatus};
 
 use crate::history::History;
 use crate::live::Live;
@@ -88,29 +89,29 @@ struct Service {
 /// Close.
 pub fn serve_alone<S: Source, K: Sink>(alloc: Global, source: &mut S, sink: K) -> Ended<K>
     // The history is legal and closed, and an empty one means that nothing was read or written.
-    ensures legal { HasLegalHistory result.status result.taken result.history.entries }
-    ensures untouched_source { result.history.entries ≡ [] → source.new ≡ source.old }
-    ensures untouched_sink { result.history.entries ≡ [] → result.sink ≡ sink }
+    ensures legal { HasLegalHistory result.status result.taken result.history.items }
+    ensures untouched_source { result.history.items ≡ [] → source.new ≡ source.old }
+    ensures untouched_sink { result.history.items ≡ [] → result.sink ≡ sink }
 
     // What was read, what was written, and that one thread would have written the same.
     ensures read { HasRead (S.left source.old) (S.left source.new)
-        result.status result.taken result.at_end result.history.entries }
+        result.status result.taken result.at_end result.history.items }
     ensures written { HasWritten (K.written sink) (K.written result.sink)
-        (K.faults sink) (K.faults result.sink) result.status result.history.entries }
-    ensures one_thread { IsOneThread result.history.entries }
+        (K.faults sink) (K.faults result.sink) result.status result.history.items }
+    ensures one_thread { IsOneThread result.history.items }
 
     // The causes of each status.
     ensures known { IsStatus result.status }
-    ensures done { HasDoneCause (S.left source.old) result.status result.taken result.at_end result.history.entries }
+    ensures done { HasDoneCause (S.left source.old) result.status result.taken result.at_end result.history.items }
     ensures read_fault { HasReadFaultCause (S.faults source.old) (S.faults source.new) result.status }
     ensures write_fault { HasWriteFaultCause (K.faults sink) (K.faults result.sink) result.status }
-    ensures truncated { HasTruncatedCause (S.left source.old) result.status result.taken result.at_end result.history.entries }
-    ensures too_long { HasTooLongCause result.status result.taken result.at_end result.history.entries }
+    ensures truncated { HasTruncatedCause (S.left source.old) result.status result.taken result.at_end result.history.items }
+    ensures too_long { HasTooLongCause result.status result.taken result.at_end result.history.items }
 
     // Without faults and want of memory everything is answered.
     ensures complete { HasCompleteness (S.left source.old)
         (S.faults source.old) (S.faults source.new) (K.faults sink) (K.faults result.sink)
-        result.status result.taken result.at_end result.history.entries }
+        result.status result.taken result.at_end result.history.items }
 {
     let mut live = match Live::new(alloc, sink) {
         Ok(live) => live,
@@ -227,7 +228,7 @@ fn answer_piece<K: Sink>(
 ) -> Answered
     requires room { end_offset reader.old.unread + length piece.now ≤ 2 ^ 63 }
     requires limit { reader.old.limit ≡ most_bytes }
-    requires going { (place live.old.entries).quit ≡ false }
+    requires going { (standing live.old.entries).quit ≡ false }
     requires clean { live.old.output.failed ≡ false }
     ensures passes { Passes result (fed reader.old.unread piece.now) live.old.entries reader.new.unread live.new.entries live.new.output }
     ensures idle { result ≡ Answered.More → IsIdle reader.new (end_offset reader.old.unread + length piece.now) }
@@ -242,7 +243,7 @@ fn answer_piece<K: Sink>(
 /// Answers each whole item that was fed.
 fn answer_items<K: Sink>(alloc: Global, reader: &mut Reader, live: &mut Live<K>) -> Answered
     requires limit { reader.old.limit ≡ most_bytes }
-    requires going { (place live.old.entries).quit ≡ false }
+    requires going { (standing live.old.entries).quit ≡ false }
     requires clean { live.old.output.failed ≡ false }
     ensures passes { Passes result reader.old.unread live.old.entries reader.new.unread live.new.entries live.new.output }
     ensures idle { result ≡ Answered.More → IsIdle reader.new (end_offset reader.old.unread) }
@@ -263,13 +264,13 @@ fn answer_items<K: Sink>(alloc: Global, reader: &mut Reader, live: &mut Live<K>)
 
 /// Answers one item, and then looks for a write fault.
 fn answer_item<K: Sink>(alloc: Global, item: Item, live: &mut Live<K>) -> Answered
-    requires going { (place live.old.entries).quit ≡ false }
+    requires going { (standing live.old.entries).quit ≡ false }
     ensures takes { Takes result live.old.entries
-        (request_of (place live.old.entries).commands (item_meaning item)) live.new.entries live.new.output }
+        (request_of (standing live.old.entries).commands (item_meaning item)) live.new.entries live.new.output }
     ensures output { Continues live.old.output live.new.output }
 {
-    let place = live.next_place();
-    let Ok(request) = read_request(alloc, item, place) else {
+    let number = live.next_number();
+    let Ok(request) = read_request(alloc, item, number) else {
         return Answered::Lost(Loss::WantOfMemory);
     };
     let quit = request.is_quit();
@@ -284,21 +285,21 @@ fn answer_item<K: Sink>(alloc: Global, item: Item, live: &mut Live<K>) -> Answer
     }
 }
 
-/// The request that an item is at a place.
-fn read_request(alloc: Global, item: Item, place: u64) -> Result<Request, NoMemory>
-    ensures { IfOk result (λ request. request ≡ request_of place (item_meaning item)) }
+/// The request that the item with a number is.
+fn read_request(alloc: Global, item: Item, number: u64) -> Result<Request, NoMemory>
+    ensures { IfOk result (λ request. request ≡ request_of number (item_meaning item)) }
 {
     match item {
-        Item::Value(value, first, _) => request_of_value(alloc, &value, place, first),
-        Item::Bad(position, kind) => Ok(request_of_bad_place(kind, place, position)),
+        Item::Value(value, first, _) => request_of_value(alloc, &value, number, first),
+        Item::Bad(offset, kind) => Ok(request_of_bad_place(kind, number, offset)),
     }
 }
 
 /// Answers the item that the end of the input makes whole, if there is one.
 fn answer_end<K: Sink>(alloc: Global, reader: Reader, live: &mut Live<K>) -> Stop
-    requires none { taken most_bytes false reader.unread ≡ None }
+    requires none { next_item most_bytes false reader.unread ≡ None }
     requires limit { reader.limit ≡ most_bytes }
-    requires going { (place live.old.entries).quit ≡ false }
+    requires going { (standing live.old.entries).quit ≡ false }
     requires clean { live.old.output.failed ≡ false }
     ensures finishes { Finishes result reader.unread live.old.entries live.new.entries live.new.output }
     ensures output { Continues live.old.output live.new.output }

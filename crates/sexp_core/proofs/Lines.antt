@@ -1,5 +1,6 @@
 -- The end of a line.
-use Rattle.std.proofs.Common.{◌≡◌, ℕ, ◌+◌, ◌-◌, ◌<◌, ◌≤◌, ◌==◌, zero, suc, List, [], ◌∷◌, length, drop, get_or, Bool, true, false, refl, sym, ap, ◌∙◌, arith, length-drop}
+use Rattle.std.proofs.Common.{◌≡◌, ℕ, ◌+◌, ◌-◌, ◌<◌, ◌≤◌, ◌==◌, zero, suc, List, [], ◌∷◌, length, drop, get_or, Bool, true, false, refl}
+use Rattle.std.proofs.Common.{sym, ap, ◌∙◌, arith, length-drop}
 use Rattle.std.specs.Prelude.{if◌then◌else◌, Some, None, cond}
 use Rattle.std.specs.List.{position, position_or_len}
 use Rattle.std.proofs.Common.{ltb}
@@ -10,7 +11,8 @@ use Rattle.std.proofs.lemmas.List.Sums.{fails_before_first}
 use Rattle.sexp_theory.specs.Items.{behind_rest_of_line}
 use Rattle.sexp_core.specs.Progress.{unread_of}
 
-pub rest-found : (bytes : List ℕ) (at i : ℕ) → i < length bytes → (get_or bytes i 0 == 10) ≡ true → ((k : ℕ) → k < i → (get_or bytes k 0 == 10) ≡ false)
+pub rest-found : (bytes : List ℕ) (at i : ℕ) → i < length bytes → (get_or bytes i 0 == 10) ≡ true
+    → ((k : ℕ) → k < i → (get_or bytes k 0 == 10) ≡ false)
     → behind_rest_of_line at bytes ≡ unread_of (drop (i + 1) bytes) (at + i + 1) false
 rest-found [] at i lt e f = absurd (omega arith)
 rest-found (b ∷ bs) at zero lt e f =
@@ -46,17 +48,19 @@ none-before bytes e k lt =
     fails_before_first (λ b. b == 10) bytes k 0 (omega arith)
 
 -- behind the line of a bad place, where it ends and where it doesn't
-pub behind_line-found : (bytes : List ℕ) (start place i : ℕ) → position (λ b. b == 10) (drop start bytes) ≡ Some i
-    → unread_of (drop (start + i + 1) bytes) (place + i + 1) false ≡ behind_rest_of_line place (drop start bytes)
-behind_line-found bytes start place i e =
+pub behind_line-found : (bytes : List ℕ) (start offset i : ℕ) → position (λ b. b == 10) (drop start bytes) ≡ Some i
+    → unread_of (drop (start + i + 1) bytes) (offset + i + 1) false ≡ behind_rest_of_line offset (drop start bytes)
+behind_line-found bytes start offset i e =
     let f = position-Some (λ b. b == 10) (drop start bytes) i 0 e in
     let g : start + i + 1 ≡ start + (i + 1) = omega arith in
-    ap (λ k. unread_of (drop k bytes) (place + i + 1) false) g ∙ ap (λ xs. unread_of xs (place + i + 1) false) (sym (drop-drop (i + 1) start bytes))
-    ∙ sym (rest-found (drop start bytes) place i f.0 f.1 f.2)
+    ap (λ k. unread_of (drop k bytes) (offset + i + 1) false) g
+    ∙ ap (λ xs. unread_of xs (offset + i + 1) false) (sym (drop-drop (i + 1) start bytes))
+    ∙ sym (rest-found (drop start bytes) offset i f.0 f.1 f.2)
 
-pub behind_line-none : (bytes : List ℕ) (start place : ℕ) → position (λ b. b == 10) (drop start bytes) ≡ None
-    → unread_of (drop (length bytes) bytes) (place + (length bytes - start)) true ≡ behind_rest_of_line place (drop start bytes)
-behind_line-none bytes start place e =
+pub behind_line-none : (bytes : List ℕ) (start offset : ℕ) → position (λ b. b == 10) (drop start bytes) ≡ None
+    → unread_of (drop (length bytes) bytes) (offset + (length bytes - start)) true ≡ behind_rest_of_line offset (drop start bytes)
+behind_line-none bytes start offset e =
     let le : length bytes ≤ length bytes = omega arith in
-    ap (λ xs. unread_of xs (place + (length bytes - start)) true) (drop_all (length bytes) bytes le)
-    ∙ ap (λ n. unread_of [] (place + n) true) (sym (length-drop start bytes)) ∙ sym (rest-none (drop start bytes) place (none-before (drop start bytes) e))
+    ap (λ xs. unread_of xs (offset + (length bytes - start)) true) (drop_all (length bytes) bytes le)
+    ∙ ap (λ n. unread_of [] (offset + n) true) (sym (length-drop start bytes))
+    ∙ sym (rest-none (drop start bytes) offset (none-before (drop start bytes) e))

@@ -2,5 +2,5 @@ pub mod Candidates
 pub mod Lists
 pub mod Sexp
 pub mod State
-pub mod Reading
+pub mod Readers
 pub mod Progress

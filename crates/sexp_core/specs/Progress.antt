@@ -13,6 +13,7 @@ use Rattle.sexp_core.specs.declared.scan.Scanned.TheVariants.{More, Whole, Bad}
 use Rattle.sexp_core.specs.declared.scan.Gap.{Gap}
 use Rattle.sexp_core.specs.declared.scan.Front.{Front}
 
+-- these bytes are unread, from an offset on, inside a line that is passed over or not
 abbrev pub unread_of : List ℕ → ℕ → Bool → Unread
 unread_of bytes at skipping = record { bytes = bytes; at = at; skipping = skipping }
 
@@ -36,9 +37,11 @@ pub record Finds (buffer : List ℕ) (front : Front) (gap : Gap) (item : List �
 -- The first `n` bytes of an item that begins at `from` lead to the state, and the bytes are read on from there: the item goes on behind
 -- them, it ends, or a bad place is shown.
 abbrev pub Scans : ℕ → ℕ → ℕ → State → List ℕ → Scanned → Machine → Type 0
-Scans limit from n s bytes More m = (rest : List ℕ) → found_from limit from n s (bytes ++ rest) ≡ found_from limit from (n + length bytes) (state_of m) rest
-Scans limit from n s bytes (Whole v to) m = (found_from limit from n s bytes ≡ value (meaning v) from to) × (to ≤ from + n + length bytes) × (from ≤ to)
-Scans limit from n s bytes (Bad kind place) m = (found_from limit from n s bytes ≡ bad kind place) × (place ≤ from + n + length bytes)
+Scans limit from n s bytes More m = (rest : List ℕ)
+    → found_from limit from n s (bytes ++ rest) ≡ found_from limit from (n + length bytes) (state_of m) rest
+Scans limit from n s bytes (Whole v to) m = (found_from limit from n s bytes ≡ value (meaning v) from to) × (to ≤ from + n + length bytes)
+    × (from ≤ to)
+Scans limit from n s bytes (Bad kind offset) m = (found_from limit from n s bytes ≡ bad kind offset) × (offset ≤ from + n + length bytes)
 
 -- what is unread of a buffer
 abbrev pub unread_from : List ℕ → Front → Unread

@@ -3,7 +3,9 @@ ghost use Rattle.std.specs.Prelude.{◌≡◌, ◌<◌, ◌∷◌, [], true, fal
 ghost use Rattle.std.specs.Char.{digit_value};
 ghost use Rattle.sexp_theory.specs.Values.{atom};
 ghost use Rattle.sexp_theory.specs.Signs.{is_decimal, is_delimiter, is_hexadecimal};
-ghost use Rattle.sexp_theory.specs.Machine.{add_byte, closes, ends_value, in_mode, is_behind, is_outer_run, on, opens, run_mode, start, step, step_between, step_decimal1, step_decimal2, step_escaped, step_hash, step_hexadecimal0, step_hexadecimal1, step_quoted, step_run};
+ghost use Rattle.sexp_theory.specs.Machine.{add_byte, closes, ends_value, in_mode, is_behind, is_outer_run, on, opens, run_mode, start};
+ghost use Rattle.sexp_theory.specs.Machine.{step, step_between, step_decimal1, step_decimal2, step_escaped, step_hash, step_hexadecimal0};
+ghost use Rattle.sexp_theory.specs.Machine.{step_hexadecimal1, step_quoted, step_run};
 ghost use Rattle.sexp_core.specs.Sexp.{meaning};
 ghost use Rattle.sexp_core.specs.State.{Makes, lists_of, mode_of, state_of};
 

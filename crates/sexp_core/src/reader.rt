@@ -1,8 +1,8 @@
 //! The items of an input that comes in pieces.
 ghost use Rattle.std.specs.Prelude.{◌≡◌, ◌+◌, ◌≤◌, ◌^◌, length, drop, false, None, IfOk, IfSome, OnErr};
-ghost use Rattle.sexp_theory.specs.Items.{fed, fresh, most_bytes, taken};
+ghost use Rattle.sexp_theory.specs.Items.{fed, fresh, most_bytes, next_item};
 ghost use Rattle.sexp_theory.specs.Written.{IsOfBytes, IsShallow};
-ghost use Rattle.sexp_core.specs.Reading.{Finishes, Gives, item_meaning};
+ghost use Rattle.sexp_core.specs.Readers.{Finishes, Gives, item_meaning};
 
 use crate::item::{Finish, Item};
 use crate::machine::Machine;
@@ -20,7 +20,8 @@ const MOST_BYTES: u64 = 1_048_576;
 /// Contracts see the bytes that were fed and are in no item yet, the offset of the first of them in all that was
 /// fed, whether they begin in a line that is passed over behind a bad place (or in a comment), and the most bytes
 /// that an item may have. No clause says how often a byte is looked at: the bytes of an item that isn't whole yet
-/// are not looked at again because more is fed, but after `NoMemory`.
+/// are not looked at again because more is fed, but after `NoMemory`. Nor does one say how much memory is held: behind
+/// a None the reader keeps at most twice the bytes of the item that isn't whole.
 #[derive(Drop)]
 pub struct Reader {
     bytes: Vec<u8>,
@@ -30,7 +31,7 @@ pub struct Reader {
 }
 
 impl Model for Reader {
-    ghost use Rattle.sexp_core.specs.Reading.{Reading};
+    ghost use Rattle.sexp_core.specs.Readers.{Reading};
     ghost use Rattle.sexp_core.specs.Progress.{IsFront, unread_from};
 
     ghost Value = { Reading };
@@ -72,9 +73,17 @@ impl Reader {
         ensures fed { IfOk result (λ _. self.new ≡ record { unread = fed self.old.unread piece.now; limit = self.old.limit }) }
         ensures no_memory { OnErr result (self.new ≡ self.old) }
     {
-        self.front.start = compact(&mut self.bytes, self.front.start);
+        self.compact();
         self.bytes.extend_from_slice(piece)?;
         Ok(())
+    }
+
+    /// Lets go of bytes that were given, where they are more than those that weren't: then what is kept is at most
+    /// twice what is unread.
+    fn compact(&mut self)
+        ensures { self.new ≡ self.old }
+    {
+        self.front.start = compact(&mut self.bytes, self.front.start);
     }
 
     /// How many bytes were fed in all.
@@ -88,6 +97,21 @@ impl Reader {
     /// passed over lines at the front are gone. A value that is given may be written (`of_bytes`, `shallow`). After
     /// `NoMemory` the reader is as before.
     pub fn next(&mut self) -> Result<Option<Item>, NoMemory>
+        ensures given { IfOk result (λ item. Gives self.old item self.new) }
+        ensures of_bytes { IfOk result (λ item. IfSome item (λ i. IsOfBytes (item_meaning i))) }
+        ensures shallow { IfOk result (λ item. IfSome item (λ i. IsShallow (item_meaning i))) }
+        ensures no_more_fed { self.new.unread.at + length self.new.unread.bytes ≤ self.old.unread.at + length self.old.unread.bytes }
+        ensures no_memory { OnErr result (self.new ≡ self.old) }
+    {
+        let item = self.take_item()?;
+        if item.is_none() {
+            self.compact();
+        }
+        Ok(item)
+    }
+
+    /// The same, with the bytes kept where they are.
+    fn take_item(&mut self) -> Result<Option<Item>, NoMemory>
         ensures given { IfOk result (λ item. Gives self.old item self.new) }
         ensures of_bytes { IfOk result (λ item. IfSome item (λ i. IsOfBytes (item_meaning i))) }
         ensures shallow { IfOk result (λ item. IfSome item (λ i. IsShallow (item_meaning i))) }
@@ -121,11 +145,11 @@ impl Reader {
                 self.front = unseen(front.start + (to - front.at) as usize, to, false);
                 Ok(Some(Item::Value(value, from, to)))
             }
-            Ok(Scanned::Bad(kind, place)) => {
+            Ok(Scanned::Bad(kind, offset)) => {
                 self.machine.clear();
-                let before = place.saturating_sub(front.at) as usize;
-                self.front = behind_line(&self.bytes, front.start + before, place);
-                Ok(Some(Item::Bad(place, kind)))
+                let before = offset.saturating_sub(front.at) as usize;
+                self.front = behind_line(&self.bytes, front.start + before, offset);
+                Ok(Some(Item::Bad(offset, kind)))
             }
         }
     }
@@ -133,7 +157,7 @@ impl Reader {
     /// The last item of an input that ends here, and how it ends, asked once `next` has given None. The reader is used
     /// up, after `NoMemory` too.
     pub fn finish(mut self) -> Result<Finish, NoMemory>
-        requires { taken self.limit false self.unread ≡ None }
+        requires { next_item self.limit false self.unread ≡ None }
         ensures given { IfOk result (λ finish. Finishes self finish) }
         ensures of_bytes { IfOk result (λ finish. IfSome finish.last (λ i. IsOfBytes (item_meaning i))) }
         ensures shallow { IfOk result (λ finish. IfSome finish.last (λ i. IsShallow (item_meaning i))) }

@@ -80,16 +80,16 @@ pub(crate) fn scan(
 {
     for n in seen..item.len() {
         let byte = item[n];
-        let place = from + n as u64;
+        let offset = from + n as u64;
         let is_behind = machine.ends_before(byte);
         if is_too_long(is_behind, limit, n) {
-            return Ok(Scanned::Bad(BadKind::TooLong, place));
+            return Ok(Scanned::Bad(BadKind::TooLong, offset));
         }
         match machine.step(byte)? {
             Step::On => {}
-            Step::Whole(value) => return Ok(Scanned::Whole(value, behind(place, is_behind))),
+            Step::Whole(value) => return Ok(Scanned::Whole(value, behind(offset, is_behind))),
             Step::Shown(kind, back) => {
-                return Ok(Scanned::Bad(kind, place.saturating_sub(u64::from(back))));
+                return Ok(Scanned::Bad(kind, offset.saturating_sub(u64::from(back))));
             }
         }
     }
@@ -104,32 +104,32 @@ fn is_too_long(is_behind: bool, limit: u64, n: usize) -> bool
 }
 
 /// The offset behind an item, which ends before the byte at `place` or with it.
-fn behind(place: u64, is_behind: bool) -> u64
-    requires { place < 2 ^ 63 }
-    ensures { result ≡ (if is_behind then place else place + 1) }
+fn behind(offset: u64, is_behind: bool) -> u64
+    requires { offset < 2 ^ 63 }
+    ensures { result ≡ (if is_behind then offset else offset + 1) }
 {
-    if is_behind { place } else { place + 1 }
+    if is_behind { offset } else { offset + 1 }
 }
 
 /// Where reading goes on behind the line of a bad place.
-pub(crate) fn behind_line(bytes: &[u8], start: usize, place: u64) -> Front
+pub(crate) fn behind_line(bytes: &[u8], start: usize, offset: u64) -> Front
     requires within { start ≤ length bytes.now }
-    requires room { place + (length bytes.now - start) ≤ 2 ^ 63 }
-    ensures rest { unread_from bytes.now result ≡ behind_rest_of_line place (drop start bytes.now) }
+    requires room { offset + (length bytes.now - start) ≤ 2 ^ 63 }
+    ensures rest { unread_from bytes.now result ≡ behind_rest_of_line offset (drop start bytes.now) }
     ensures within { result.start ≤ length bytes.now }
-    ensures ends { result.at + (length bytes.now - result.start) ≤ place + (length bytes.now - start) }
+    ensures ends { result.at + (length bytes.now - result.start) ≤ offset + (length bytes.now - start) }
     ensures unseen { result.seen ≡ 0 }
 {
     match line_end(bytes_from(bytes, start)) {
         Some(end) => Front {
             start: start + end + 1,
-            at: place + end as u64 + 1,
+            at: offset + end as u64 + 1,
             skipping: false,
             seen: 0,
         },
         None => Front {
             start: bytes.len(),
-            at: place + (bytes.len() - start) as u64,
+            at: offset + (bytes.len() - start) as u64,
             skipping: true,
             seen: 0,
         },

@@ -1,7 +1,7 @@
 //! Texts and their items, typed from the format, however they are cut.
 
 ghost use Rattle.std.specs.Prelude.{◌≡◌, ◌≤◌, length, false, None, IfOk};
-ghost use Rattle.sexp_theory.specs.Items.{taken};
+ghost use Rattle.sexp_theory.specs.Items.{next_item};
 
 use crate::{Finish, InputEnd, Item, Reader, Sexp};
 use std::alloc::{AllocError, Global};
@@ -41,7 +41,7 @@ fn show_item(out: &mut String, item: &Item) -> Result<(), AllocError> {
             show(out, sexp)?;
             write!(out, " {from}-{to}; ")
         }
-        Item::Bad(place, kind) => write!(out, "{kind:?} {place}; "),
+        Item::Bad(offset, kind) => write!(out, "{kind:?} {offset}; "),
     }
 }
 
@@ -57,7 +57,7 @@ fn show_end(out: &mut String, finish: &Finish) -> Result<(), AllocError> {
 
 /// Feeds a piece and shows the items that it ends.
 fn show_piece(reader: &mut Reader, out: &mut String, piece: &[u8]) -> Result<(), Fail>
-    ensures { IfOk result (λ _. taken reader.new.limit false reader.new.unread ≡ None) }
+    ensures { IfOk result (λ _. next_item reader.new.limit false reader.new.unread ≡ None) }
 {
     if reader.fed() > 1 << 40 || piece.len() > 1 << 40 {
         return Err(Fail::new("too much is fed"));

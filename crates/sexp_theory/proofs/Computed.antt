@@ -1,13 +1,18 @@
 -- What the machine computes stands first in the text.
-use Rattle.std.proofs.Common.{◌≡◌, ◌≢◌, inl, inr, ℕ, suc, ◌+◌, ◌-◌, ◌<◌, ◌≤◌, ◌==◌, ◌&&◌, List, [], ◌∷◌, ◌++◌, length, Bool, true, false, not, nat_le, if◌then◌else◌, refl, sym, ap, ◌∙◌, subst, append_assoc, append-nil, length-append, arith, true≢false}
+use Rattle.std.proofs.Common.{◌≡◌, ◌≢◌, inl, inr, ℕ, suc, ◌+◌, ◌-◌, ◌<◌, ◌≤◌, ◌==◌, ◌&&◌, List, [], ◌∷◌, ◌++◌, length, Bool, true, false}
+use Rattle.std.proofs.Common.{not, nat_le, if◌then◌else◌, refl, sym, ap, ◌∙◌, subst, append_assoc, append-nil, length-append, arith}
+use Rattle.std.proofs.Common.{true≢false}
 use Rattle.std.proofs.lemmas.Bool.{leb-true, leb-false, and_parts, eqb-true, eqb-false, false≢true, not_from_false}
 use Rattle.std.proofs.lemmas.List.Elements.{All-nil, All-cons, All-head, All-tail}
 use Rattle.std.specs.List.{AllPass}
 use Rattle.sexp_theory.specs.Values.{Value, nesting}
 use Rattle.sexp_theory.specs.Signs.{is_blank, is_plain, is_delimiter}
 use Rattle.sexp_theory.specs.Spelling.{is_of_line, IsGap, IsRun}
-use Rattle.sexp_theory.specs.Places.{Found, nothing, unfinished, last_run, value, bad, most_lists, IsInComment, IsUnfinished, in_list, in_comment, in_run, in_quotes, in_escape, too_long, IsFound, IsFoundBehindLine}
-use Rattle.sexp_theory.specs.Machine.{State, Mode, between, commented, run, hash, quoted, escaped, decimal1, decimal2, hexadecimal0, hexadecimal1, Step, on, whole, shown, step, start, is_outer_run, is_behind, at_end, found, found_behind_line, found_from}
+use Rattle.sexp_theory.specs.Places.{Found, nothing, unfinished, last_run, value, bad, most_lists, IsInComment, IsUnfinished, in_list}
+use Rattle.sexp_theory.specs.Places.{in_comment, in_run, in_quotes, in_escape, too_long, IsFound, IsFoundBehindLine}
+use Rattle.sexp_theory.specs.Machine.{State, Mode, between, commented, run, hash, quoted, escaped, decimal1, decimal2, hexadecimal0}
+use Rattle.sexp_theory.specs.Machine.{hexadecimal1, Step, on, whole, shown, step, start, is_outer_run, is_behind, at_end, found}
+use Rattle.sexp_theory.specs.Machine.{found_behind_line, found_from}
 use Rattle.sexp_theory.specs.declared.input.BadKind.TheVariants.{TooLong}
 use Rattle.sexp_theory.proofs.Lists.{last_push, last}
 use Rattle.sexp_theory.proofs.Walks.{found_by}
@@ -17,7 +22,8 @@ use Rattle.sexp_theory.proofs.Kept.{InRun, InComment, InEscape, At, Kept, run_wo
 
 -- ---- the end of the text
 
-comment_words : (bytes : List ℕ) (us : List Value) (ls : List (List Value)) → InComment bytes (us ∷ ls) → IsInComment (suc (length ls)) bytes
+comment_words : (bytes : List ℕ) (us : List Value) (ls : List (List Value)) → InComment bytes (us ∷ ls)
+    → IsInComment (suc (length ls)) bytes
 comment_words bytes us ls h = record {
   before = h.0;
   words = h.1;
@@ -63,10 +69,12 @@ comment_no_run [] bytes h r = h
 comment_no_run (us ∷ ls) bytes h r = no_run bytes h.0 h.1 59 h.2 refl r
 
 inner_no_run : (bytes own : List ℕ) (us : List Value) (ls : List (List Value)) → InRun bytes own (us ∷ ls) → IsRun bytes → ⊥
-inner_no_run bytes own us ls h r = no_run bytes h.2.0 (h.2.1 ++ own) 40 (h.1 ∙ ap (λ xs. xs ++ own) h.2.2 ∙ append_assoc h.2.0 (40 ∷ h.2.1) own) refl r
+inner_no_run bytes own us ls h r = no_run bytes h.2.0 (h.2.1 ++ own) 40 (h.1 ∙ ap (λ xs. xs ++ own) h.2.2
+    ∙ append_assoc h.2.0 (40 ∷ h.2.1) own) refl r
 
 escape_no_run : (m : Mode) (bytes of : List ℕ) (lists : List (List Value)) → InEscape m bytes of lists → IsRun bytes → ⊥
-escape_no_run m bytes of lists h r = no_run bytes h.3.0 (h.3.1 ++ h.1) 34 (h.2 ∙ ap (λ xs. xs ++ h.1) h.3.2 ∙ append_assoc h.3.0 (34 ∷ h.3.1) h.1) refl r
+escape_no_run m bytes of lists h r = no_run bytes h.3.0 (h.3.1 ++ h.1) 34 (h.2 ∙ ap (λ xs. xs ++ h.1) h.3.2
+    ∙ append_assoc h.3.0 (34 ∷ h.3.1) h.1) refl r
 
 -- a run that is the whole item stands outside of lists
 outer_at : (m : Mode) (bytes own : List ℕ) (lists : List (List Value)) → At m bytes own lists → IsRun bytes → is_outer_run m lists ≡ true
@@ -84,7 +92,8 @@ outer_at hexadecimal0 bytes own lists h r = absurd (escape_no_run hexadecimal0 b
 outer_at (hexadecimal1 k) bytes own lists h r = absurd (escape_no_run (hexadecimal1 k) bytes own lists h r)
 
 -- and a run outside of lists is the whole item
-outer_is : (m : Mode) (bytes own : List ℕ) (lists : List (List Value)) → At m bytes own lists → is_outer_run m lists ≡ true → (bytes ≡ own) × IsRun own
+outer_is : (m : Mode) (bytes own : List ℕ) (lists : List (List Value)) → At m bytes own lists → is_outer_run m lists ≡ true
+    → (bytes ≡ own) × IsRun own
 outer_is run bytes own [] h e = (h.0.1 ∙ ap (λ xs. xs ++ own) h.0.2, h.0.4)
 outer_is run bytes own (us ∷ ls) h e = absurd (false≢true e)
 outer_is hash bytes own [] h e = (h.0.1 ∙ ap (λ xs. xs ++ own) h.0.2, h.0.4)
@@ -98,30 +107,56 @@ by_test : (P : Found → Type 0) (c : Bool) (x y : Found) → (c ≡ true → P 
 by_test P true x y h k = h refl
 by_test P false x y h k = k refl
 
-end_found : (limit from : ℕ) (bytes : List ℕ) (s : State) → Kept bytes s → bytes ≢ [] → length bytes ≤ limit → IsFound limit from bytes (at_end from s)
-end_found limit from bytes s h n l = by_test (IsFound limit from bytes) (is_outer_run s.mode s.lists) (last_run s.atom from) (unfinished from)
+end_found : (limit from : ℕ) (bytes : List ℕ) (s : State) → Kept bytes s → bytes ≢ [] → length bytes ≤ limit
+    → IsFound limit from bytes (at_end from s)
+end_found limit from bytes s h n l = by_test (IsFound limit from bytes) (is_outer_run s.mode s.lists) (last_run s.atom from)
+    (unfinished from)
     (λ e. let r = outer_is s.mode bytes s.atom s.lists h e in ([], r.0, no_gap, r.1, omega (arith, l, ap length r.0), omega arith))
-    (λ e. ([], bytes, refl, no_gap, unfinished_at s.mode bytes s.atom s.lists h n, (λ r. true≢false (sym (outer_at s.mode bytes s.atom s.lists h r) ∙ e)), l, omega arith))
+    (λ e. (
+      [],
+      bytes,
+      refl,
+      no_gap,
+      unfinished_at s.mode bytes s.atom s.lists h n,
+      (λ r. true≢false (sym (outer_at s.mode bytes s.atom s.lists h r) ∙ e)),
+      l,
+      omega arith,
+    ))
 
 -- ---- a byte more
 
 cons_some : (b : ℕ) (bytes : List ℕ) → b ∷ bytes ≡ [] → ⊥
 cons_some b bytes e = omega (arith, ap length e)
 
-whole_found : (limit from : ℕ) (bytes more : List ℕ) (b : ℕ) (v : Value) (behind : Bool) → length bytes ≤ limit → (behind ≡ false → length bytes < limit) → nesting v ≤ most_lists → WholeBy behind bytes b v
+whole_found : (limit from : ℕ) (bytes more : List ℕ) (b : ℕ) (v : Value) (behind : Bool) → length bytes ≤ limit
+    → (behind ≡ false → length bytes < limit) → nesting v ≤ most_lists → WholeBy behind bytes b v
     → IsFound limit from (bytes ++ b ∷ more) (value v from (if behind then from + length bytes else from + length bytes + 1))
 whole_found limit from bytes more b v true l room fits h =
     ([], bytes, b ∷ more, refl, no_gap, h.1, (λ r e. cons_some b more e), (λ r. h.2), fits, l, omega arith, refl)
 whole_found limit from bytes more b v false l room fits h =
-    let n = length-append bytes (b ∷ []) in
-    ([], bytes ++ b ∷ [], more, sym (append_assoc bytes (b ∷ []) more), no_gap, h.0, (λ r. absurd (h.1 r)), (λ r. absurd (h.1 r)), fits, omega (arith, n, room refl), omega arith, omega (arith, n))
+    let n = length-append bytes (b ∷ []) in (
+      [],
+      bytes ++ b ∷ [],
+      more,
+      sym (append_assoc bytes (b ∷ []) more),
+      no_gap,
+      h.0,
+      (λ r. absurd (h.1 r)),
+      (λ r. absurd (h.1 r)),
+      fits,
+      omega (arith, n, room refl),
+      omega arith,
+      omega (arith, n),
+    )
 
 room_from : (behind : Bool) (limit n : ℕ) → (not behind && nat_le limit n) ≡ false → behind ≡ false → n < limit
 room_from true limit n e k = absurd (true≢false k)
 room_from false limit n e k = leb-false limit n e
 
-next_found : (limit from : ℕ) (bytes more : List ℕ) (s : State) (b : ℕ) (r : Step) → length bytes ≤ limit → (is_behind s b ≡ false → length bytes < limit) → Good bytes b (is_behind s b) r
-    → ((t : State) → Kept (bytes ++ b ∷ []) t → length (bytes ++ b ∷ []) ≤ limit → IsFound limit from ((bytes ++ b ∷ []) ++ more) (found_from limit from (length (bytes ++ b ∷ [])) t more))
+next_found : (limit from : ℕ) (bytes more : List ℕ) (s : State) (b : ℕ) (r : Step) → length bytes ≤ limit
+    → (is_behind s b ≡ false → length bytes < limit) → Good bytes b (is_behind s b) r
+    → ((t : State) → Kept (bytes ++ b ∷ []) t → length (bytes ++ b ∷ []) ≤ limit
+    → IsFound limit from ((bytes ++ b ∷ []) ++ more) (found_from limit from (length (bytes ++ b ∷ [])) t more))
     → IsFound limit from (bytes ++ b ∷ more) (found_by limit from (length bytes) s b more r)
 next_found limit from bytes more s b (on t) l room h ih =
     let n : length (bytes ++ b ∷ []) ≡ length bytes + 1 = length-append bytes (b ∷ []) in
@@ -135,7 +170,8 @@ not_behind_plain : (o d : Bool) → not (o && d) ≡ true → o ≡ true → not
 not_behind_plain false d e k = absurd (false≢true k)
 not_behind_plain true d e k = e
 
-too_long_found : (limit from : ℕ) (bytes more : List ℕ) (s : State) (b : ℕ) → Kept bytes s → bytes ≢ [] → length bytes ≤ limit → (not (is_behind s b) && nat_le limit (length bytes)) ≡ true
+too_long_found : (limit from : ℕ) (bytes more : List ℕ) (s : State) (b : ℕ) → Kept bytes s → bytes ≢ [] → length bytes ≤ limit
+    → (not (is_behind s b) && nat_le limit (length bytes)) ≡ true
     → IsFound limit from (bytes ++ b ∷ more) (bad TooLong (from + length bytes))
 too_long_found limit from bytes more s b h n l e =
     let p = and_parts (not (is_behind s b)) (nat_le limit (length bytes)) e in
@@ -147,7 +183,8 @@ too_long_found limit from bytes more s b h n l e =
       limit,
       refl,
       no_gap,
-      too_long (unfinished_at s.mode bytes s.atom s.lists h n) (λ r. not_behind_plain (is_outer_run s.mode s.lists) (is_delimiter b) p.0 (outer_at s.mode bytes s.atom s.lists h r)) full,
+      too_long (unfinished_at s.mode bytes s.atom s.lists h n)
+          (λ r. not_behind_plain (is_outer_run s.mode s.lists) (is_delimiter b) p.0 (outer_at s.mode bytes s.atom s.lists h r)) full,
       omega (arith, full),
     )
 
@@ -155,31 +192,82 @@ no_start : Starts [] → ⊥
 no_start h = cons_some h.0 h.1 (sym h.2)
 
 first_from : (bytes : List ℕ) (b : ℕ) (more : List ℕ) → (bytes ≡ [] → Starts (b ∷ more)) → First bytes b
-first_from bytes b more h none = let s = h none in let same : s.0 ≡ b = cc in (subst (λ c. is_blank c ≡ false) same s.3, subst (λ c. c ≡ 59 → ⊥) same (eqb-false s.0 59 s.4))
+first_from bytes b more h none = let s = h none in let same : s.0 ≡ b = cc in
+    (subst (λ c. is_blank c ≡ false) same s.3, subst (λ c. c ≡ 59 → ⊥) same (eqb-false s.0 59 s.4))
 
-pub found_rest : (rest : List ℕ) (limit from : ℕ) (s : State) (bytes : List ℕ) → 0 < limit → Kept bytes s → length bytes ≤ limit → (bytes ≡ [] → Starts rest)
+pub found_rest : (rest : List ℕ) (limit from : ℕ) (s : State) (bytes : List ℕ) → 0 < limit → Kept bytes s → length bytes ≤ limit
+    → (bytes ≡ [] → Starts rest)
     → IsFound limit from (bytes ++ rest) (found_from limit from (length bytes) s rest)
 found_rest [] limit from s bytes z h l f =
-    subst (λ xs. IsFound limit from xs (at_end from s)) (sym (append-nil bytes)) (end_found limit from bytes s h (λ none. no_start (f none)) l)
+    subst (λ xs. IsFound limit from xs (at_end from s)) (sym (append-nil bytes))
+    (end_found limit from bytes s h (λ none. no_start (f none)) l)
 found_rest (b ∷ more) limit from s bytes z h l f =
-    by_test (IsFound limit from (bytes ++ b ∷ more)) (not (is_behind s b) && nat_le limit (length bytes)) (bad TooLong (from + length bytes)) (found_by limit from (length bytes) s b more (step s b))
-    (λ e. too_long_found limit from bytes more s b h (λ none. absurd (omega (arith, z, ap length none, leb-true limit (length bytes) (and_parts (not (is_behind s b)) (nat_le limit (length bytes)) e).1))) l e)
-    (λ e. next_found limit from bytes more s b (step s b) l (room_from (is_behind s b) limit (length bytes) e) (good bytes s b h (first_from bytes b more f))
-    (λ t k j. found_rest more limit from t (bytes ++ b ∷ []) z k j (λ none. absurd (omega (arith, ap length none, length-append bytes (b ∷ []))))))
+    by_test (IsFound limit from (bytes ++ b ∷ more)) (not (is_behind s b) && nat_le limit (length bytes))
+    (bad TooLong (from + length bytes)) (found_by limit from (length bytes) s b more (step s b))
+    (λ e. too_long_found limit from bytes more s b h
+    (λ none. absurd (omega (
+      arith,
+      z,
+      ap length none,
+      leb-true limit (length bytes) (and_parts (not (is_behind s b)) (nat_le limit (length bytes)) e).1,
+    ))) l e)
+    (λ e. next_found limit from bytes more s b (step s b) l (room_from (is_behind s b) limit (length bytes) e)
+    (good bytes s b h (first_from bytes b more f))
+    (λ t k j. found_rest more limit from t (bytes ++ b ∷ []) z k j
+    (λ none. absurd (omega (arith, ap length none, length-append bytes (b ∷ []))))))
 
 -- ---- before the item
 
-gap_found : (limit at : ℕ) (gap text : List ℕ) (f : Found) → IsGap gap → IsFound limit (at + length gap) text f → IsFound limit at (gap ++ text) f
+gap_found : (limit at : ℕ) (gap text : List ℕ) (f : Found) → IsGap gap → IsFound limit (at + length gap) text f
+    → IsFound limit at (gap ++ text) f
 gap_found limit at gap text nothing g (inl h) = inl (gap_append gap text g h)
-gap_found limit at gap text nothing g (inr h) = inr (gap ++ h.0, h.1, ap (λ xs. gap ++ xs) h.2 ∙ sym (append_assoc gap h.0 (59 ∷ h.1)), gap_append gap h.0 g h.3, h.4)
-gap_found limit at gap text (unfinished from) g h =
-    (gap ++ h.0, h.1, ap (λ xs. gap ++ xs) h.2 ∙ sym (append_assoc gap h.0 h.1), gap_append gap h.0 g h.3, h.4, h.5, h.6, omega (arith, h.7, length-append gap h.0))
-gap_found limit at gap text (last_run own from) g h =
-    (gap ++ h.0, ap (λ xs. gap ++ xs) h.1 ∙ sym (append_assoc gap h.0 own), gap_append gap h.0 g h.2, h.3, h.4, omega (arith, h.5, length-append gap h.0))
-gap_found limit at gap text (value v from to) g h =
-    (gap ++ h.0, h.1, h.2, ap (λ xs. gap ++ xs) h.3 ∙ sym (append_assoc gap h.0 (h.1 ++ h.2)), gap_append gap h.0 g h.4, h.5, h.6, h.7, h.8, h.9, omega (arith, h.10, length-append gap h.0), h.11)
-gap_found limit at gap text (bad kind place) g h =
-    (gap ++ h.0, h.1, h.2, h.3, h.4, ap (λ xs. gap ++ xs) h.5 ∙ sym (append_assoc gap h.0 (h.1 ++ h.3 ∷ h.2)), gap_append gap h.0 g h.6, h.7, omega (arith, h.8, length-append gap h.0))
+gap_found limit at gap text nothing g (inr h) =
+    inr (gap ++ h.0, h.1, ap (λ xs. gap ++ xs) h.2 ∙ sym (append_assoc gap h.0 (59 ∷ h.1)), gap_append gap h.0 g h.3, h.4)
+gap_found limit at gap text (unfinished from) g h = (
+  gap ++ h.0,
+  h.1,
+  ap (λ xs. gap ++ xs) h.2 ∙ sym (append_assoc gap h.0 h.1),
+  gap_append gap h.0 g h.3,
+  h.4,
+  h.5,
+  h.6,
+  omega (arith, h.7, length-append gap h.0),
+)
+gap_found limit at gap text (last_run own from) g h = (
+  gap ++ h.0,
+  ap (λ xs. gap ++ xs) h.1 ∙ sym (append_assoc gap h.0 own),
+  gap_append gap h.0 g h.2,
+  h.3,
+  h.4,
+  omega (arith, h.5, length-append gap h.0),
+)
+gap_found limit at gap text (value v from to) g h = (
+  gap ++ h.0,
+  h.1,
+  h.2,
+  ap (λ xs. gap ++ xs) h.3
+      ∙ sym (append_assoc gap h.0 (h.1 ++ h.2)),
+  gap_append gap h.0 g h.4,
+  h.5,
+  h.6,
+  h.7,
+  h.8,
+  h.9,
+  omega (arith, h.10, length-append gap h.0),
+  h.11,
+)
+gap_found limit at gap text (bad kind offset) g h = (
+  gap ++ h.0,
+  h.1,
+  h.2,
+  h.3,
+  h.4,
+  ap (λ xs. gap ++ xs) h.5
+      ∙ sym (append_assoc gap h.0 (h.1 ++ h.3 ∷ h.2)),
+  gap_append gap h.0 g h.6,
+  h.7,
+  omega (arith, h.8, length-append gap h.0),
+)
 
 line_found : (limit at : ℕ) (rest : List ℕ) (f : Found) → IsFoundBehindLine limit (at + 1) rest f → IsFound limit at (59 ∷ rest) f
 line_found limit at rest f (inl h) = subst (IsFound limit at (59 ∷ rest)) (sym h.1) (inr ([], rest, refl, no_gap, h.0))
@@ -193,7 +281,8 @@ line_ends limit at b rest f e h =
     let n : at + 1 ≡ at + 0 + 1 = omega arith in
     inr ([], rest, ap (λ c. c ∷ rest) e, All-nil (λ c. is_of_line c ≡ true), subst (λ k. IsFound limit k rest f) n h)
 
-line_goes_on : (limit at b : ℕ) (rest : List ℕ) (f : Found) → is_of_line b ≡ true → IsFoundBehindLine limit (at + 1) rest f → IsFoundBehindLine limit at (b ∷ rest) f
+line_goes_on : (limit at b : ℕ) (rest : List ℕ) (f : Found) → is_of_line b ≡ true → IsFoundBehindLine limit (at + 1) rest f
+    → IsFoundBehindLine limit at (b ∷ rest) f
 line_goes_on limit at b rest f p (inl h) = inl (All-cons (λ c. is_of_line c ≡ true) b rest p h.0, h.1)
 line_goes_on limit at b rest f p (inr h) =
     let n : at + 1 + length h.0 + 1 ≡ at + length (b ∷ h.0) + 1 = omega arith in
@@ -203,7 +292,8 @@ mutual
   pub found_text : (text : List ℕ) (limit at : ℕ) → 0 < limit → IsFound limit at text (found limit at text)
   found_text [] limit at z = inl no_gap
   found_text (b ∷ rest) limit at z =
-      by_test (IsFound limit at (b ∷ rest)) (is_blank b) (found limit (at + 1) rest) (if b == 59 then found_behind_line limit (at + 1) rest else found_from limit at 0 start (b ∷ rest))
+      by_test (IsFound limit at (b ∷ rest)) (is_blank b) (found limit (at + 1) rest)
+      (if b == 59 then found_behind_line limit (at + 1) rest else found_from limit at 0 start (b ∷ rest))
       (λ e. gap_found limit at (b ∷ []) rest (found limit (at + 1) rest) (blank_gap b e) (found_text rest limit (at + 1) z))
       (λ n. by_test (IsFound limit at (b ∷ rest)) (b == 59) (found_behind_line limit (at + 1) rest) (found_from limit at 0 start (b ∷ rest))
       (λ e. subst (λ c. IsFound limit at (c ∷ rest) (found_behind_line limit (at + 1) rest)) (sym (eqb-true b 59 e))
@@ -215,4 +305,5 @@ mutual
   behind_text (b ∷ rest) limit at z =
       by_test (IsFoundBehindLine limit at (b ∷ rest)) (b == 10) (found limit (at + 1) rest) (found_behind_line limit (at + 1) rest)
       (λ e. line_ends limit at b rest (found limit (at + 1) rest) (eqb-true b 10 e) (found_text rest limit (at + 1) z))
-      (λ n. line_goes_on limit at b rest (found_behind_line limit (at + 1) rest) (not_from_false (b == 10) n) (behind_text rest limit (at + 1) z))
+      (λ n. line_goes_on limit at b rest (found_behind_line limit (at + 1) rest) (not_from_false (b == 10) n)
+      (behind_text rest limit (at + 1) z))

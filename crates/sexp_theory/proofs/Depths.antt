@@ -1,5 +1,6 @@
 -- The values that are found in bytes are of bytes, and at most 256 lists stand inside one another.
-use Rattle.std.proofs.Common.{◌≡◌, ℕ, ◌+◌, ◌-◌, ◌*◌, max, ◌<◌, ◌≤◌, ◌&&◌, ◌||◌, ◌==◌, List, [], ◌∷◌, ◌++◌, length, nat_le, nat_lt, not, Bool, true, false, Option, Some, None, if◌then◌else◌, refl, ◌∙◌, subst, arith}
+use Rattle.std.proofs.Common.{◌≡◌, ℕ, ◌+◌, ◌-◌, ◌*◌, max, ◌<◌, ◌≤◌, ◌&&◌, ◌||◌, ◌==◌, List, [], ◌∷◌, ◌++◌, length, nat_le, nat_lt, not}
+use Rattle.std.proofs.Common.{Bool, true, false, Option, Some, None, if◌then◌else◌, refl, ◌∙◌, subst, arith}
 use Rattle.std.specs.List.{list_all, All}
 use Rattle.std.specs.Char.{digit_value}
 use Rattle.std.proofs.lemmas.List.Folds.{list_all-append}
@@ -8,9 +9,13 @@ use Rattle.sexp_theory.specs.Values.{Value, atom, list, values, nesting, nesting
 use Rattle.sexp_theory.specs.Signs.{is_blank, is_delimiter, is_decimal, is_hexadecimal, letter_value}
 use Rattle.sexp_theory.proofs.AtomTexts.{is_byte, all_bytes, below_all}
 use Rattle.sexp_theory.specs.Places.{Found, nothing, unfinished, last_run, value, bad}
-use Rattle.sexp_theory.specs.Machine.{State, Step, on, whole, shown, Mode, between, commented, run, hash, quoted, escaped, decimal1, decimal2, hexadecimal0, hexadecimal1, step, step_in, step_between, step_behind_run, step_run, step_hash, step_quoted, step_escaped, step_decimal1, step_decimal2, step_hexadecimal0, step_hexadecimal1, run_mode, is_outer_run, opens, closes, ends_value, is_behind, found_from, found, found_behind_line, start}
+use Rattle.sexp_theory.specs.Machine.{State, Step, on, whole, shown, Mode, between, commented, run, hash, quoted, escaped, decimal1}
+use Rattle.sexp_theory.specs.Machine.{decimal2, hexadecimal0, hexadecimal1, step, step_in, step_between, step_behind_run, step_run}
+use Rattle.sexp_theory.specs.Machine.{step_hash, step_quoted, step_escaped, step_decimal1, step_decimal2, step_hexadecimal0}
+use Rattle.sexp_theory.specs.Machine.{step_hexadecimal1, run_mode, is_outer_run, opens, closes, ends_value, is_behind, found_from, found}
+use Rattle.sexp_theory.specs.Machine.{found_behind_line, start}
 use Rattle.sexp_theory.specs.Written.{IsOfBytes, IsShallow}
-use Rattle.sexp_theory.specs.Items.{Taken, Unread, first_of, taken, taken_of}
+use Rattle.sexp_theory.specs.Items.{Taken, Unread, first_of, next_item, taken_of}
 
 -- ---- what each state keeps, where the text is of bytes (B) or not
 
@@ -43,19 +48,23 @@ module _ (B : Type 0) where
   nesting_one_more [] v = omega arith
   nesting_one_more (w ∷ vs) v = omega (arith, nesting_one_more vs v)
 
-  lists_one_more : (vs : List Value) (v : Value) (lists : List (List Value)) → (B → HasBytes v) → nesting v + length lists < 256 → GoodLists (vs ∷ lists) → GoodLists ((vs ++ v ∷ []) ∷ lists)
+  lists_one_more : (vs : List Value) (v : Value) (lists : List (List Value)) → (B → HasBytes v) → nesting v + length lists < 256
+      → GoodLists (vs ∷ lists) → GoodLists ((vs ++ v ∷ []) ∷ lists)
   lists_one_more vs v lists h deep g = ((λ t. have_one_more vs v (g.0 t) (h t)), omega (arith, deep, g.1, nesting_one_more vs v), g.2)
 
   atom_bytes : (bytes : List ℕ) → (B → list_all is_byte bytes ≡ true) → B → All (λ b. b < 256) bytes
   atom_bytes bytes e t = below_all bytes (e t)
 
-  one_byte_more : (bytes : List ℕ) (b : ℕ) → (B → list_all is_byte bytes ≡ true) → (B → b < 256) → B → list_all is_byte (bytes ++ b ∷ []) ≡ true
+  one_byte_more : (bytes : List ℕ) (b : ℕ) → (B → list_all is_byte bytes ≡ true) → (B → b < 256) → B
+      → list_all is_byte (bytes ++ b ∷ []) ≡ true
   one_byte_more bytes b e h t =
-      list_all-append is_byte bytes (b ∷ []) ∙ and_from (list_all is_byte bytes) (list_all is_byte (b ∷ [])) (e t) (and_from (is_byte b) true (lt-ltb b 256 (h t)) refl)
+      list_all-append is_byte bytes (b ∷ []) ∙ and_from (list_all is_byte bytes) (list_all is_byte (b ∷ [])) (e t)
+      (and_from (is_byte b) true (lt-ltb b 256 (h t)) refl)
 
   -- ---- steps
 
-  ends_good : (v : Value) (lists : List (List Value)) → (B → HasBytes v) → nesting v + length lists ≤ 256 → GoodLists lists → GoodStep (ends_value v lists)
+  ends_good : (v : Value) (lists : List (List Value)) → (B → HasBytes v) → nesting v + length lists ≤ 256 → GoodLists lists
+      → GoodStep (ends_value v lists)
   ends_good v [] h deep g = (h, omega (arith, deep))
   ends_good v (vs ∷ lists) h deep g = record { bytes = λ _. refl; mode = tt; lists = lists_one_more vs v lists h (omega (arith, deep)) g }
 
@@ -81,9 +90,11 @@ module _ (B : Type 0) where
       (λ _. cond_both (b == 34) _ _ GoodStep (λ e. record { bytes = λ _. refl; mode = tt; lists = g })
       (λ _. record { bytes = one_byte_more [] b (λ _. refl) h; mode = run_mode_fits b; lists = g })))))
 
-  behind_run_good : (bytes : List ℕ) (lists : List (List Value)) (b : ℕ) → (B → b < 256) → (B → list_all is_byte bytes ≡ true) → GoodLists lists → GoodStep (step_behind_run bytes lists b)
+  behind_run_good : (bytes : List ℕ) (lists : List (List Value)) (b : ℕ) → (B → b < 256) → (B → list_all is_byte bytes ≡ true)
+      → GoodLists lists → GoodStep (step_behind_run bytes lists b)
   behind_run_good bytes [] b h e g = (atom_bytes bytes e, omega arith)
-  behind_run_good bytes (vs ∷ lists) b h e g = between_good ((vs ++ atom bytes ∷ []) ∷ lists) b h (lists_one_more vs (atom bytes) lists (atom_bytes bytes e) (omega (arith, g.1)) g)
+  behind_run_good bytes (vs ∷ lists) b h e g = between_good ((vs ++ atom bytes ∷ []) ∷ lists) b h
+      (lists_one_more vs (atom bytes) lists (atom_bytes bytes e) (omega (arith, g.1)) g)
 
   run_good : (s : State) (b : ℕ) → (B → b < 256) → IsGood s → GoodStep (step_run s b)
   run_good s b h g =
@@ -93,7 +104,8 @@ module _ (B : Type 0) where
   hash_good : (s : State) (b : ℕ) → (B → b < 256) → IsGood s → GoodStep (step_hash s b)
   hash_good s b h g = cond_both (b == 59 || b == 124) _ _ GoodStep (λ e. tt) (λ e. run_good s b h g)
 
-  adds_good : (s : State) (b : ℕ) → (B → b < 256) → IsGood s → GoodStep (on (record { mode = quoted; atom = s.atom ++ b ∷ []; lists = s.lists }))
+  adds_good : (s : State) (b : ℕ) → (B → b < 256) → IsGood s
+      → GoodStep (on (record { mode = quoted; atom = s.atom ++ b ∷ []; lists = s.lists }))
   adds_good s b h g = record { bytes = one_byte_more s.atom b g.bytes h; mode = tt; lists = g.lists }
 
   moves_good : (s : State) (mode : Mode) → ModeFits mode → IsGood s → GoodStep (on (record { mode = mode; atom = s.atom; lists = s.lists }))
@@ -106,7 +118,8 @@ module _ (B : Type 0) where
 
   quoted_good : (s : State) (b : ℕ) → (B → b < 256) → IsGood s → GoodStep (step_quoted s b)
   quoted_good s b h g =
-      cond_both (b == 34) _ _ GoodStep (λ e. ends_good (atom s.atom) s.lists (atom_bytes s.atom g.bytes) (omega (arith, few_lists s.lists g.lists)) g.lists)
+      cond_both (b == 34) _ _ GoodStep (λ e. ends_good (atom s.atom) s.lists (atom_bytes s.atom g.bytes)
+      (omega (arith, few_lists s.lists g.lists)) g.lists)
       (λ _. cond_both (b == 92) _ _ GoodStep (λ e. moves_good s escaped tt g) (λ e. adds_good s b h g))
 
   escaped_good : (s : State) (b : ℕ) → (B → b < 256) → IsGood s → GoodStep (step_escaped s b)
@@ -116,23 +129,28 @@ module _ (B : Type 0) where
       (λ _. cond_both (nat_lt (digit_value b) 3) _ _ GoodStep (λ e. moves_good s (decimal1 (digit_value b)) tt g) (λ e. tt)))
 
   decimal1_good : (n : ℕ) (s : State) (b : ℕ) → IsGood s → GoodStep (step_decimal1 n s b)
-  decimal1_good n s b g = cond_both (is_decimal b && nat_lt (n * 100 + digit_value b * 10) 256) _ _ GoodStep (λ e. moves_good s (decimal2 (n * 10 + digit_value b)) tt g) (λ e. tt)
+  decimal1_good n s b g = cond_both (is_decimal b && nat_lt (n * 100 + digit_value b * 10) 256) _ _ GoodStep
+      (λ e. moves_good s (decimal2 (n * 10 + digit_value b)) tt g) (λ e. tt)
 
   decimal2_good : (n : ℕ) (s : State) (b : ℕ) → IsGood s → GoodStep (step_decimal2 n s b)
   decimal2_good n s b g =
       cond_both (is_decimal b && nat_lt (n * 10 + digit_value b) 256) _ _ GoodStep
-      (λ e. adds_good s (n * 10 + digit_value b) (λ _. ltb-true (n * 10 + digit_value b) 256 (and_parts (is_decimal b) (nat_lt (n * 10 + digit_value b) 256) e).1) g) (λ e. tt)
+      (λ e. adds_good s (n * 10 + digit_value b) (λ _.
+      ltb-true (n * 10 + digit_value b) 256 (and_parts (is_decimal b) (nat_lt (n * 10 + digit_value b) 256) e).1) g) (λ e. tt)
 
   hexadecimal0_good : (s : State) (b : ℕ) → IsGood s → GoodStep (step_hexadecimal0 s b)
-  hexadecimal0_good s b g = cond_both (is_hexadecimal b) _ _ GoodStep (λ e. moves_good s (hexadecimal1 (digit_value b)) (ltb-true (digit_value b) 16 e) g) (λ e. tt)
+  hexadecimal0_good s b g = cond_both (is_hexadecimal b) _ _ GoodStep
+      (λ e. moves_good s (hexadecimal1 (digit_value b)) (ltb-true (digit_value b) 16 e) g) (λ e. tt)
 
   hexadecimal1_good : (n : ℕ) (s : State) (b : ℕ) → n < 16 → IsGood s → GoodStep (step_hexadecimal1 n s b)
   hexadecimal1_good n s b fits g =
-      cond_both (is_hexadecimal b) _ _ GoodStep (λ e. adds_good s (n * 16 + digit_value b) (λ _. omega (arith, fits, ltb-true (digit_value b) 16 e)) g) (λ e. tt)
+      cond_both (is_hexadecimal b) _ _ GoodStep (λ e.
+      adds_good s (n * 16 + digit_value b) (λ _. omega (arith, fits, ltb-true (digit_value b) 16 e)) g) (λ e. tt)
 
   in_mode_good : (mode : Mode) (s : State) (b : ℕ) → (B → b < 256) → ModeFits mode → IsGood s → GoodStep (step_in mode s b)
   in_mode_good between s b h fits g = between_good s.lists b h g.lists
-  in_mode_good commented s b h fits g = moves_good s (if b == 10 then between else commented) (cond_both (b == 10) _ _ ModeFits (λ e. tt) (λ e. tt)) g
+  in_mode_good commented s b h fits g = moves_good s (if b == 10 then between else commented)
+      (cond_both (b == 10) _ _ ModeFits (λ e. tt) (λ e. tt)) g
   in_mode_good run s b h fits g = run_good s b h g
   in_mode_good hash s b h fits g = hash_good s b h g
   in_mode_good quoted s b h fits g = quoted_good s b h g
@@ -152,17 +170,24 @@ module _ (B : Type 0) where
   GoodFound (unfinished from) = Unit {0}
   GoodFound (last_run bytes from) = B → list_all is_byte bytes ≡ true
   GoodFound (value v from to) = (B → HasBytes v) × (nesting v ≤ 256)
-  GoodFound (bad kind place) = Unit {0}
+  GoodFound (bad kind offset) = Unit {0}
 
-  from_good : (limit from n : ℕ) (s : State) (text : List ℕ) → (B → list_all is_byte text ≡ true) → IsGood s → GoodFound (found_from limit from n s text)
-  from_good limit from n s [] h g = cond_both (is_outer_run s.mode s.lists) (last_run s.atom from) (unfinished from) GoodFound (λ e. g.bytes) (λ e. tt)
+  from_good : (limit from n : ℕ) (s : State) (text : List ℕ) → (B → list_all is_byte text ≡ true) → IsGood s
+      → GoodFound (found_from limit from n s text)
+  from_good limit from n s [] h g = cond_both (is_outer_run s.mode s.lists) (last_run s.atom from) (unfinished from) GoodFound
+      (λ e. g.bytes) (λ e. tt)
   from_good limit from n s (b ∷ rest) h g =
       let p : B → (is_byte b ≡ true) × (list_all is_byte rest ≡ true) = λ t. and_parts (is_byte b) (list_all is_byte rest) (h t) in
       cond_both (not (is_behind s b) && nat_le limit n) _ _ GoodFound (λ e. tt)
       (λ e. go (step s b) (step_good s b (λ t. ltb-true b 256 (p t).0) g) (λ t k. from_good limit from (n + 1) t rest (λ t. (p t).1) k))
     where
       go : (made : Step) → GoodStep made → ((t : State) → IsGood t → GoodFound (found_from limit from (n + 1) t rest))
-          → GoodFound (elim made [ on t ↦ found_from limit from (n + 1) t rest | whole v ↦ value v from (if is_behind s b then from + n else from + n + 1) | shown kind back ↦ bad kind (from + n - back) ])
+          → GoodFound (elim made [
+            | on t ↦ found_from limit from (n + 1) t rest
+            | whole v
+                ↦ value v from (if is_behind s b then from + n else from + n + 1)
+            | shown kind back ↦ bad kind (from + n - back)
+          ])
       go (on t) k more = more t k
       go (whole v) k more = k
       go (shown kind back) k more = tt
@@ -171,14 +196,17 @@ module _ (B : Type 0) where
     found_good : (limit at : ℕ) (text : List ℕ) → (B → list_all is_byte text ≡ true) → GoodFound (found limit at text)
     found_good limit at [] h = tt
     found_good limit at (b ∷ rest) h =
-        cond_both (is_blank b) _ _ GoodFound (λ e. found_good limit (at + 1) rest (λ t. (and_parts (is_byte b) (list_all is_byte rest) (h t)).1))
-        (λ _. cond_both (b == 59) _ _ GoodFound (λ e. behind_line_good limit (at + 1) rest (λ t. (and_parts (is_byte b) (list_all is_byte rest) (h t)).1))
+        cond_both (is_blank b) _ _ GoodFound (λ e. found_good limit (at + 1) rest
+        (λ t. (and_parts (is_byte b) (list_all is_byte rest) (h t)).1))
+        (λ _. cond_both (b == 59) _ _ GoodFound (λ e. behind_line_good limit (at + 1) rest
+        (λ t. (and_parts (is_byte b) (list_all is_byte rest) (h t)).1))
         (λ _. from_good limit at 0 start (b ∷ rest) h (record { bytes = λ _. refl; mode = tt; lists = tt })))
 
     behind_line_good : (limit at : ℕ) (text : List ℕ) → (B → list_all is_byte text ≡ true) → GoodFound (found_behind_line limit at text)
     behind_line_good limit at [] h = tt
     behind_line_good limit at (b ∷ rest) h =
-        cond_both (b == 10) _ _ GoodFound (λ e. found_good limit (at + 1) rest (λ t. (and_parts (is_byte b) (list_all is_byte rest) (h t)).1))
+        cond_both (b == 10) _ _ GoodFound (λ e. found_good limit (at + 1) rest
+        (λ t. (and_parts (is_byte b) (list_all is_byte rest) (h t)).1))
         (λ e. behind_line_good limit (at + 1) rest (λ t. (and_parts (is_byte b) (list_all is_byte rest) (h t)).1))
 
   abbrev GoodTaken : Option Taken → Type 0
@@ -191,17 +219,21 @@ module _ (B : Type 0) where
   taken_good true u (last_run bytes from) g = (atom_bytes bytes g, omega arith)
   taken_good false u (last_run bytes from) g = tt
   taken_good ended u (value v from to) g = g
-  taken_good ended u (bad kind place) g = ((λ _. tt), tt)
+  taken_good ended u (bad kind offset) g = ((λ _. tt), tt)
 
   first_good : (limit : ℕ) (u : Unread) → (B → list_all is_byte u.bytes ≡ true) → GoodFound (first_of limit u)
-  first_good limit u h = cond_both u.skipping (found_behind_line limit u.at u.bytes) (found limit u.at u.bytes) GoodFound (λ e. behind_line_good limit u.at u.bytes h) (λ e. found_good limit u.at u.bytes h)
+  first_good limit u h = cond_both u.skipping (found_behind_line limit u.at u.bytes) (found limit u.at u.bytes) GoodFound
+      (λ e. behind_line_good limit u.at u.bytes h) (λ e. found_good limit u.at u.bytes h)
 
 -- a value that is taken from bytes is of bytes
-pub item_of_bytes : (limit : ℕ) (ended : Bool) (u : Unread) (t : Taken) → All (λ b. b < 256) u.bytes → taken limit ended u ≡ Some t → IsOfBytes t.item
+pub item_of_bytes : (limit : ℕ) (ended : Bool) (u : Unread) (t : Taken) → All (λ b. b < 256) u.bytes → next_item limit ended u ≡ Some t
+    → IsOfBytes t.item
 item_of_bytes limit ended u t h e =
-    let good = subst (GoodTaken (Unit {0})) e (taken_good (Unit {0}) ended u (first_of limit u) (first_good (Unit {0}) limit u (λ _. all_bytes u.bytes h))) in
+    let good = subst (GoodTaken (Unit {0})) e (taken_good (Unit {0}) ended u (first_of limit u)
+    (first_good (Unit {0}) limit u (λ _. all_bytes u.bytes h))) in
     good.0 tt
 
 -- a value that is taken has no more lists inside one another than an item may have
-pub item_shallow : (limit : ℕ) (ended : Bool) (u : Unread) (t : Taken) → taken limit ended u ≡ Some t → IsShallow t.item
-item_shallow limit ended u t e = (subst (GoodTaken ⊥) e (taken_good ⊥ ended u (first_of limit u) (first_good ⊥ limit u (λ none. absurd none)))).1
+pub item_shallow : (limit : ℕ) (ended : Bool) (u : Unread) (t : Taken) → next_item limit ended u ≡ Some t → IsShallow t.item
+item_shallow limit ended u t e = (subst (GoodTaken ⊥) e
+    (taken_good ⊥ ended u (first_of limit u) (first_good ⊥ limit u (λ none. absurd none)))).1

@@ -1,12 +1,15 @@
 -- The machine over the first bytes of an item that isn't ended.
-use Rattle.std.proofs.Common.{◌≡◌, ◌≢◌, inl, inr, ℕ, zero, suc, ◌==◌, List, [], ◌∷◌, ◌++◌, length, Bool, true, false, if◌then◌else◌, refl, sym, ap, ◌∙◌, subst, append_assoc, arith, true≢false}
+use Rattle.std.proofs.Common.{◌≡◌, ◌≢◌, inl, inr, ℕ, zero, suc, ◌==◌, List, [], ◌∷◌, ◌++◌, length, Bool, true, false, if◌then◌else◌, refl}
+use Rattle.std.proofs.Common.{sym, ap, ◌∙◌, subst, append_assoc, arith, true≢false}
 use Rattle.std.proofs.lemmas.List.Elements.{All-head, All-tail}
 use Rattle.std.specs.List.{AllPass}
 use Rattle.sexp_theory.specs.Values.{Value}
 use Rattle.sexp_theory.specs.Signs.{is_plain}
 use Rattle.sexp_theory.specs.Spelling.{IsRun}
-use Rattle.sexp_theory.specs.Places.{IsInRun, IsInComment, IsInQuotes, IsInEscape, IsUnfinished, in_list, in_comment, in_run, in_quotes, in_escape}
-use Rattle.sexp_theory.specs.Machine.{State, Mode, between, commented, run, hash, quoted, escaped, decimal1, decimal2, hexadecimal0, hexadecimal1, on, start, run_mode, is_outer_run}
+use Rattle.sexp_theory.specs.Places.{IsInRun, IsInComment, IsInQuotes, IsInEscape, IsUnfinished, in_list, in_comment, in_run, in_quotes}
+use Rattle.sexp_theory.specs.Places.{in_escape}
+use Rattle.sexp_theory.specs.Machine.{State, Mode, between, commented, run, hash, quoted, escaped, decimal1, decimal2, hexadecimal0}
+use Rattle.sexp_theory.specs.Machine.{hexadecimal1, on, start, run_mode, is_outer_run}
 use Rattle.sexp_theory.proofs.Lists.{last, split_last}
 use Rattle.sexp_theory.proofs.Walks.{through, through_step, through_append}
 use Rattle.sexp_theory.proofs.Steps.{standing, commenting, running, quoting}
@@ -29,7 +32,8 @@ run_split : (bytes : List ℕ) → IsRun bytes → (front : List ℕ) × (b : �
 run_split [] r = absurd (omega (arith, r.some))
 run_split (b ∷ bytes) r = let s = split_last b bytes in (s.0, last b bytes, s.1, last_plain b bytes r.plain)
 
-settled_whole : (before : List ℕ) (t : State) (lists : List (List Value)) → ((front : List ℕ) (b : ℕ) → before ≡ front ++ b ∷ [] → is_plain b ≡ false) → Settled before t lists → t ≡ standing lists
+settled_whole : (before : List ℕ) (t : State) (lists : List (List Value))
+    → ((front : List ℕ) (b : ℕ) → before ≡ front ++ b ∷ [] → is_plain b ≡ false) → Settled before t lists → t ≡ standing lists
 settled_whole before t lists h (inl e) = e
 settled_whole before t lists h (inr s) =
     let r = run_split s.1 s.5 in
@@ -43,19 +47,24 @@ pub run_reached : (n : ℕ) (bytes before own : List ℕ) → IsInRun n bytes be
 run_reached n bytes before own h =
     let r = open_through n before h.opened in (
       r.1,
-      ap (through start) h.spelled ∙ through_append start r.0 before own r.2 ∙ ap (λ t. through t own) (settled_whole before r.0 r.1 h.whole_run r.3) ∙ run_through own r.1 h.is_run,
+      ap (through start) h.spelled ∙ through_append start r.0 before own r.2
+          ∙ ap (λ t. through t own) (settled_whole before r.0 r.1 h.whole_run r.3) ∙ run_through own r.1 h.is_run,
       r.4,
     )
 
 seam_comment : (before words : List ℕ) → ((front : List ℕ) → before ≢ front ++ 35 ∷ []) → Seam before (59 ∷ words)
-seam_comment before words h = λ front own e r. (refl, λ x k. absurd (h (front ++ x) (e ∙ ap (λ xs. front ++ xs) k ∙ sym (append_assoc front x (35 ∷ [])))))
+seam_comment before words h = λ front own e r. (
+  refl,
+  λ x k. absurd (h (front ++ x) (e ∙ ap (λ xs. front ++ xs) k ∙ sym (append_assoc front x (35 ∷ [])))),
+)
 
 pub comment_reached : (n : ℕ) (bytes : List ℕ) → IsInComment n bytes → Reaches bytes n (λ lists. commenting lists)
 comment_reached n bytes h =
     let r = open_through n h.before h.opened in (
       r.1,
       ap (through start) h.spelled ∙ through_append start r.0 h.before (59 ∷ h.words) r.2
-          ∙ through_step r.0 (commenting r.1) 59 h.words (settled_step h.before r.0 r.1 59 h.words r.3 (seam_comment h.before h.words h.no_hash))
+          ∙ through_step r.0 (commenting r.1) 59 h.words
+          (settled_step h.before r.0 r.1 59 h.words r.3 (seam_comment h.before h.words h.no_hash))
           ∙ words_through h.words r.1 h.one_line,
       r.4,
     )
@@ -65,16 +74,19 @@ quotes_reached n bytes before h =
     let r = open_through n before h.opened in (
       r.1,
       ap (through start) h.spelled ∙ through_append start r.0 before (34 ∷ h.inner) r.2
-          ∙ through_step r.0 (quoting [] r.1) 34 h.inner (settled_step before r.0 r.1 34 h.inner r.3 (seam_delimiter before 34 h.inner refl (λ k. absurd (omega (arith, k)))))
+          ∙ through_step r.0 (quoting [] r.1) 34 h.inner
+          (settled_step before r.0 r.1 34 h.inner r.3 (seam_delimiter before 34 h.inner refl (λ k. absurd (omega (arith, k)))))
           ∙ bytes_through h.inner h.of [] r.1 h.are_bytes,
       r.4,
     )
 
-pub escape_reached : (n : ℕ) (bytes front escape : List ℕ) (h : IsInEscape n bytes front escape) (m : Mode) → IsEscape escape m → Reaches bytes n (λ lists. at_mode m h.in_quotes.of lists)
+pub escape_reached : (n : ℕ) (bytes front escape : List ℕ) (h : IsInEscape n bytes front escape) (m : Mode) → IsEscape escape m
+    → Reaches bytes n (λ lists. at_mode m h.in_quotes.of lists)
 escape_reached n bytes front escape h m k =
     let r = quotes_reached n front h.before h.in_quotes in (
       r.0,
-      ap (through start) h.spelled ∙ through_append start (quoting h.in_quotes.of r.0) front escape r.1 ∙ escape_through m escape h.in_quotes.of r.0 k,
+      ap (through start) h.spelled ∙ through_append start (quoting h.in_quotes.of r.0) front escape r.1
+          ∙ escape_through m escape h.in_quotes.of r.0 k,
       r.2,
     )
 
@@ -119,10 +131,12 @@ settled_length bytes t lists (inl e) = ap (λ u. length u.lists) e
 settled_length bytes t lists (inr s) = ap (λ u. length u.lists) s.6 ∙ sym (ap length s.7)
 
 pub unfinished_stands : (bytes : List ℕ) → IsUnfinished bytes → Stands bytes
-unfinished_stands bytes (in_list n h) = let r = open_through (suc n) bytes h in (r.0, r.2, λ no. no_outer_run r.0.mode r.0.lists n (settled_length bytes r.0 r.1 r.3 ∙ r.4))
+unfinished_stands bytes (in_list n h) = let r = open_through (suc n) bytes h in
+    (r.0, r.2, λ no. no_outer_run r.0.mode r.0.lists n (settled_length bytes r.0 r.1 r.3 ∙ r.4))
 unfinished_stands bytes (in_comment n h) = let r = comment_reached (suc n) bytes h in (commenting r.0, r.1, λ no. refl)
 unfinished_stands bytes (in_run zero before own h) =
-    let r = run_reached zero bytes before own h in (running own r.0, r.1, λ no. absurd (no (subst IsRun (sym (run_outside bytes before own h)) h.is_run)))
+    let r = run_reached zero bytes before own h in
+    (running own r.0, r.1, λ no. absurd (no (subst IsRun (sym (run_outside bytes before own h)) h.is_run)))
 unfinished_stands bytes (in_run (suc n) before own h) =
     let r = run_reached (suc n) bytes before own h in (running own r.0, r.1, λ no. no_outer_run (run_mode (last 32 own)) r.0 n r.2)
 unfinished_stands bytes (in_quotes n before h) = let r = quotes_reached n bytes before h in (quoting h.of r.0, r.1, λ no. refl)

@@ -23,11 +23,13 @@ atom_at_the_end = refl
 empty_atom : first (34 ∷ 34 ∷ []) ≡ value (atom []) 0 2
 empty_atom = refl
 
-escaped_bytes : first (34 ∷ 92 ∷ 48 ∷ 48 ∷ 48 ∷ 92 ∷ 120 ∷ 70 ∷ 102 ∷ 92 ∷ 110 ∷ 10 ∷ 92 ∷ 92 ∷ 92 ∷ 50 ∷ 53 ∷ 53 ∷ 34 ∷ []) ≡ value (atom (0 ∷ 255 ∷ 10 ∷ 10 ∷ 92 ∷ 255 ∷ [])) 0 19
+escaped_bytes : first (34 ∷ 92 ∷ 48 ∷ 48 ∷ 48 ∷ 92 ∷ 120 ∷ 70 ∷ 102 ∷ 92 ∷ 110 ∷ 10 ∷ 92 ∷ 92 ∷ 92 ∷ 50 ∷ 53 ∷ 53 ∷ 34 ∷ [])
+    ≡ value (atom (0 ∷ 255 ∷ 10 ∷ 10 ∷ 92 ∷ 255 ∷ [])) 0 19
 escaped_bytes = refl
 
 -- lists, blanks and comments
-nested : first (59 ∷ 40 ∷ 10 ∷ 40 ∷ 97 ∷ 40 ∷ 41 ∷ 32 ∷ 98 ∷ 59 ∷ 41 ∷ 10 ∷ 41 ∷ []) ≡ value (list (cons (atom (97 ∷ [])) (cons (list nil) (cons (atom (98 ∷ [])) nil)))) 3 13
+nested : first (59 ∷ 40 ∷ 10 ∷ 40 ∷ 97 ∷ 40 ∷ 41 ∷ 32 ∷ 98 ∷ 59 ∷ 41 ∷ 10 ∷ 41 ∷ [])
+    ≡ value (list (cons (atom (97 ∷ [])) (cons (list nil) (cons (atom (98 ∷ [])) nil)))) 3 13
 nested = refl
 
 blanks_alone : first (32 ∷ 9 ∷ 59 ∷ 34 ∷ []) ≡ nothing
@@ -93,7 +95,9 @@ longest_escape = refl
 text : List ℕ
 text = 97 ∷ 41 ∷ 98 ∷ 10 ∷ 99 ∷ 32 ∷ 34 ∷ 92 ∷ 10 ∷ 100 ∷ 40 ∷ []
 
-items_of_text : items_of 1000 true (whole_text text) ≡ value_item (atom (97 ∷ [])) 0 1 ∷ bad_item 1 StrayClose ∷ value_item (atom (99 ∷ [])) 4 5 ∷ bad_item 7 BadEscape ∷ value_item (atom (100 ∷ [])) 9 10 ∷ []
+items_of_text : items_of 1000 true (whole_text text)
+    ≡ value_item (atom (97 ∷ [])) 0 1 ∷ bad_item 1 StrayClose ∷ value_item (atom (99 ∷ [])) 4 5 ∷ bad_item 7 BadEscape ∷ value_item
+    (atom (100 ∷ [])) 9 10 ∷ []
 unfolding text
 items_of_text = refl
 

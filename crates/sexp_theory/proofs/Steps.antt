@@ -1,10 +1,12 @@
 -- What a byte makes of the machine's state.
-use Rattle.std.proofs.Common.{◌≡◌, ◌≢◌, ◌⊎◌, inl, inr, ℕ, ◌<◌, ◌≤◌, ◌==◌, ◌||◌, List, [], ◌∷◌, length, Bool, true, false, not, if◌then◌else◌, refl, sym, ap, ◌∙◌, subst, true≢false}
+use Rattle.std.proofs.Common.{◌≡◌, ◌≢◌, ◌⊎◌, inl, inr, ℕ, ◌<◌, ◌≤◌, ◌==◌, ◌||◌, List, [], ◌∷◌, length, Bool, true, false, not}
+use Rattle.std.proofs.Common.{if◌then◌else◌, refl, sym, ap, ◌∙◌, subst, true≢false}
 use Rattle.std.proofs.lemmas.Bool.{lt-ltb, le-ltb, eqb-true, ne_eqb, or_parts, not-true, not-false}
 use Rattle.sexp_theory.specs.Values.{Value}
 use Rattle.sexp_theory.specs.Signs.{is_blank, is_delimiter, is_plain}
 use Rattle.sexp_theory.specs.Places.{most_lists}
-use Rattle.sexp_theory.specs.Machine.{State, between, commented, run, hash, quoted, on, shown, step, step_between, step_behind_run, run_mode, add_byte}
+use Rattle.sexp_theory.specs.Machine.{State, between, commented, run, hash, quoted, on, shown, step, step_between, step_behind_run}
+use Rattle.sexp_theory.specs.Machine.{run_mode, add_byte}
 use Rattle.sexp_theory.specs.declared.input.BadKind.TheVariants.{TooDeep, HashBar}
 use Rattle.sexp_theory.proofs.Lists.{last}
 
@@ -24,7 +26,8 @@ quoting bytes lists = record { mode = quoted; atom = bytes; lists = lists }
 
 -- ---- bytes
 
-pub plain_parts : (b : ℕ) → is_plain b ≡ true → (is_blank b ≡ false) × ((b == 34) ≡ false) × ((b == 40) ≡ false) × ((b == 41) ≡ false) × ((b == 59) ≡ false)
+pub plain_parts : (b : ℕ) → is_plain b ≡ true → (is_blank b ≡ false) × ((b == 34) ≡ false) × ((b == 40) ≡ false) × ((b == 41) ≡ false)
+    × ((b == 59) ≡ false)
 plain_parts b e =
     let a = or_parts _ _ (not-true _ e) in let c = or_parts _ _ a.0 in let d = or_parts _ _ c.0 in let f = or_parts _ _ d.0 in
     (f.0, f.1, d.1, c.1, a.1)
@@ -49,15 +52,18 @@ too_many_lists lists h = rw (le-ltb (length lists) most_lists h)
 -- ---- in a run
 
 -- a byte of a run behind another that isn't the bar behind a `#`
-pub runs_on : (bytes : List ℕ) (lists : List (List Value)) (b : ℕ) → is_plain b ≡ true → (last 32 bytes ≡ 35 → b ≢ 124) → step (running bytes lists) b ≡ add_byte (run_mode b) b (running bytes lists)
+pub runs_on : (bytes : List ℕ) (lists : List (List Value)) (b : ℕ) → is_plain b ≡ true → (last 32 bytes ≡ 35 → b ≢ 124)
+    → step (running bytes lists) b ≡ add_byte (run_mode b) b (running bytes lists)
 runs_on bytes lists b p h = go (last 32 bytes == 35) (λ e. h (eqb-true _ _ e))
   where
-    go : (c : Bool) → (c ≡ true → b ≢ 124) → step (record { mode = if c then hash else run; atom = bytes; lists = lists }) b ≡ add_byte (run_mode b) b (record { mode = if c then hash else run; atom = bytes; lists = lists })
+    go : (c : Bool) → (c ≡ true → b ≢ 124) → step (record { mode = if c then hash else run; atom = bytes; lists = lists }) b
+        ≡ add_byte (run_mode b) b (record { mode = if c then hash else run; atom = bytes; lists = lists })
     go true k = rw (not-true _ p, (plain_parts b p).4, ne_eqb b 124 (k refl))
     go false k = rw (not-true _ p)
 
 -- a delimiter behind a run, but no `;` behind a `#`
-pub run_ends : (bytes : List ℕ) (lists : List (List Value)) (b : ℕ) → is_plain b ≡ false → (last 32 bytes ≡ 35 → b ≢ 59) → step (running bytes lists) b ≡ step_behind_run bytes lists b
+pub run_ends : (bytes : List ℕ) (lists : List (List Value)) (b : ℕ) → is_plain b ≡ false → (last 32 bytes ≡ 35 → b ≢ 59)
+    → step (running bytes lists) b ≡ step_behind_run bytes lists b
 run_ends bytes lists b p h = go (last 32 bytes == 35) (λ e. h (eqb-true _ _ e))
   where
     ends : is_delimiter b ≡ true
@@ -66,13 +72,16 @@ run_ends bytes lists b p h = go (last 32 bytes == 35) (λ e. h (eqb-true _ _ e))
     no_bar : b ≢ 124
     no_bar e = true≢false (sym (ap is_plain e) ∙ p)
 
-    go : (c : Bool) → (c ≡ true → b ≢ 59) → step (record { mode = if c then hash else run; atom = bytes; lists = lists }) b ≡ step_behind_run bytes lists b
+    go : (c : Bool) → (c ≡ true → b ≢ 59) → step (record { mode = if c then hash else run; atom = bytes; lists = lists }) b
+        ≡ step_behind_run bytes lists b
     go true k = rw (ends, ne_eqb b 59 (k refl), ne_eqb b 124 no_bar)
     go false k = rw ends
 
 -- a bar or a `;` behind a `#`
-pub shows_hash : (bytes : List ℕ) (lists : List (List Value)) (b : ℕ) → last 32 bytes ≡ 35 → (b ≡ 59) ⊎ (b ≡ 124) → step (running bytes lists) b ≡ shown HashBar 1
-shows_hash bytes lists b e h = subst (λ l. step (record { mode = run_mode l; atom = bytes; lists = lists }) b ≡ shown HashBar 1) (sym e) (go h)
+pub shows_hash : (bytes : List ℕ) (lists : List (List Value)) (b : ℕ) → last 32 bytes ≡ 35 → (b ≡ 59) ⊎ (b ≡ 124)
+    → step (running bytes lists) b ≡ shown HashBar 1
+shows_hash bytes lists b e h = subst (λ l. step (record { mode = run_mode l; atom = bytes; lists = lists }) b ≡ shown HashBar 1) (sym e)
+    (go h)
   where
     go : (b ≡ 59) ⊎ (b ≡ 124) → step (record { mode = hash; atom = bytes; lists = lists }) b ≡ shown HashBar 1
     go (inl k) = subst (λ c. step (record { mode = hash; atom = bytes; lists = lists }) c ≡ shown HashBar 1) (sym k) refl

@@ -1,5 +1,6 @@
 -- The text of a value spells the value.
-use Rattle.std.proofs.Common.{◌≡◌, ◌≢◌, inl, inr, ℕ, ◌+◌, ◌*◌, ◌/◌, ◌%◌, ◌<◌, ◌&&◌, ◌||◌, ◌==◌, List, [], ◌∷◌, ◌++◌, nat_lt, not, true, false, refl, sym, ap, ◌∙◌, arith}
+use Rattle.std.proofs.Common.{◌≡◌, ◌≢◌, inl, inr, ℕ, ◌+◌, ◌*◌, ◌/◌, ◌%◌, ◌<◌, ◌&&◌, ◌||◌, ◌==◌, List, [], ◌∷◌, ◌++◌, nat_lt, not, true}
+use Rattle.std.proofs.Common.{false, refl, sym, ap, ◌∙◌, arith}
 use Rattle.std.specs.List.{list_all, All}
 use Rattle.std.specs.Char.{digit_value}
 use Rattle.std.proofs.lemmas.List.Sums.{AllPass-from_list_all}
@@ -9,7 +10,8 @@ use Rattle.sexp_theory.specs.Values.{Value, atom, list, Values, nil, cons, HasBy
 use Rattle.sexp_theory.specs.Signs.{is_plain}
 use Rattle.sexp_theory.specs.Spelling.{IsGap, IsRun, IsByte, itself, letter, decimal, AreBytes, Ends, Spells, SpellAll}
 use Rattle.sexp_theory.specs.Writing as writing
-use Rattle.sexp_theory.specs.Writing.{is_bare, is_bare_atom, is_itself, decimal_escape, quoted_byte, quoted_bytes, atom_text, text, texts, texts_behind}
+use Rattle.sexp_theory.specs.Writing.{is_bare, is_bare_atom, is_itself, decimal_escape, quoted_byte, quoted_bytes, atom_text, text, texts}
+use Rattle.sexp_theory.specs.Writing.{texts_behind}
 use Rattle.sexp_theory.proofs.AtomTexts.{is_byte, all_bytes, itself_parts, sign_value, first_digit, second_digit, third_digit}
 use Rattle.sexp_theory.proofs.ReadAgain.{bare_parts}
 
@@ -27,7 +29,8 @@ is_run (b ∷ bs) e = record {
   some = omega arith;
   plain = AllPass-from_list_all is_plain (b ∷ bs) (plain_bare (b ∷ bs) e);
   no_hash_bar = λ before after same.
-      let all : (list_all is_bare before && list_all is_bare (35 ∷ 124 ∷ after)) ≡ true = sym (list_all-append is_bare before (35 ∷ 124 ∷ after)) ∙ ap (list_all is_bare) (sym same) ∙ e in
+      let all : (list_all is_bare before && list_all is_bare (35 ∷ 124 ∷ after)) ≡ true =
+      sym (list_all-append is_bare before (35 ∷ 124 ∷ after)) ∙ ap (list_all is_bare) (sym same) ∙ e in
       false≢true (and_parts (list_all is_bare before) (list_all is_bare (35 ∷ 124 ∷ after)) all).1;
 }
 
@@ -39,13 +42,18 @@ is_decimal_byte b h =
     let one = first_digit b h in
     let two = second_digit b h in
     let three = third_digit b h in
-    let small : (nat_lt (digit_value (48 + b / 100)) 10 && nat_lt (digit_value (48 + b / 10 % 10)) 10 && nat_lt (digit_value (48 + b % 10)) 10) ≡ true =
-    agree_below_at (λ b. nat_lt (digit_value (48 + b / 100)) 10 && nat_lt (digit_value (48 + b / 10 % 10)) 10 && nat_lt (digit_value (48 + b % 10)) 10) (λ _. true) 256 b refl h in
-    let p = and_parts (nat_lt (digit_value (48 + b / 100)) 10 && nat_lt (digit_value (48 + b / 10 % 10)) 10) (nat_lt (digit_value (48 + b % 10)) 10) small in
+    let small : (nat_lt (digit_value (48 + b / 100)) 10 && nat_lt (digit_value (48 + b / 10 % 10)) 10 && nat_lt
+    (digit_value (48 + b % 10)) 10) ≡ true =
+    agree_below_at (λ b. nat_lt (digit_value (48 + b / 100)) 10 && nat_lt (digit_value (48 + b / 10 % 10)) 10 && nat_lt
+    (digit_value (48 + b % 10)) 10) (λ _. true) 256 b refl h in
+    let p = and_parts (nat_lt (digit_value (48 + b / 100)) 10 && nat_lt (digit_value (48 + b / 10 % 10)) 10)
+    (nat_lt (digit_value (48 + b % 10)) 10) small in
     let q = and_parts (nat_lt (digit_value (48 + b / 100)) 10) (nat_lt (digit_value (48 + b / 10 % 10)) 10) p.0 in
     let sum : (digit_value (48 + b / 100) * 100 + digit_value (48 + b / 10 % 10) * 10 + digit_value (48 + b % 10) == b) ≡ true =
-    agree_below_at (λ b. digit_value (48 + b / 100) * 100 + digit_value (48 + b / 10 % 10) * 10 + digit_value (48 + b % 10) == b) (λ _. true) 256 b refl h in
-    decimal (48 + b / 100) (48 + b / 10 % 10) (48 + b % 10) refl (ltb-true _ 10 q.0) (ltb-true _ 10 q.1) (ltb-true _ 10 p.1) (sym (eqb-true _ b sum)) h
+    agree_below_at (λ b. digit_value (48 + b / 100) * 100 + digit_value (48 + b / 10 % 10) * 10 + digit_value (48 + b % 10) == b)
+    (λ _. true) 256 b refl h in
+    decimal (48 + b / 100) (48 + b / 10 % 10) (48 + b % 10) refl (ltb-true _ 10 q.0) (ltb-true _ 10 q.1) (ltb-true _ 10 p.1)
+    (sym (eqb-true _ b sum)) h
 
 is_written_byte : (b : ℕ) → b < 256 → IsByte (quoted_byte b) b
 is_written_byte b h =
@@ -95,9 +103,26 @@ mutual
 
   spell_texts : (vs : Values) → HaveBytes vs → SpellAll (texts vs) vs
   spell_texts nil h = no_gap
-  spell_texts (cons v vs) h = ([], text v, texts_behind v vs, refl, no_gap, spells_text v h.0, ends_behind (text v) v vs, spell_behind v vs h.1)
+  spell_texts (cons v vs) h = (
+    [],
+    text v,
+    texts_behind v vs,
+    refl,
+    no_gap,
+    spells_text v h.0,
+    ends_behind (text v) v vs,
+    spell_behind v vs h.1,
+  )
 
   spell_behind : (before : Value) (vs : Values) → HaveBytes vs → SpellAll (texts_behind before vs) vs
   spell_behind before nil h = no_gap
-  spell_behind before (cons v vs) h =
-      (writing.between before v, text v, texts_behind v vs, refl, between_gap before v, spells_text v h.0, ends_behind (text v) v vs, spell_behind v vs h.1)
+  spell_behind before (cons v vs) h = (
+    writing.between before v,
+    text v,
+    texts_behind v vs,
+    refl,
+    between_gap before v,
+    spells_text v h.0,
+    ends_behind (text v) v vs,
+    spell_behind v vs h.1,
+  )

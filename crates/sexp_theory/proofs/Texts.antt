@@ -1,5 +1,6 @@
 -- The bytes of a text, and that no two values have one text.
-use Rattle.std.proofs.Common.{◌≡◌, ◌≢◌, ℕ, ◌+◌, ◌-◌, ◌<◌, ◌≤◌, ◌&&◌, ◌||◌, ◌==◌, List, [], ◌∷◌, ◌++◌, length, drop, nat_le, not, Bool, true, false, Some, append_assoc, append-nil, refl, sym, ap, ◌∙◌, subst, arith}
+use Rattle.std.proofs.Common.{◌≡◌, ◌≢◌, ℕ, ◌+◌, ◌-◌, ◌<◌, ◌≤◌, ◌&&◌, ◌||◌, ◌==◌, List, [], ◌∷◌, ◌++◌, length, drop, nat_le, not, Bool}
+use Rattle.std.proofs.Common.{true, false, Some, append_assoc, append-nil, refl, sym, ap, ◌∙◌, subst, arith}
 use Rattle.std.specs.List.{list_all, All, AllPass}
 use Rattle.std.proofs.Math.Seq.{drop-append_seam}
 use Rattle.std.proofs.lemmas.List.{drop_all}
@@ -12,7 +13,7 @@ use Rattle.sexp_theory.specs.Writing.{is_bare, is_bare_atom, quoted_byte, quoted
 use Rattle.sexp_theory.specs.Written.{is_bare_value, sole_item, first_item, IsTextOf}
 use Rattle.sexp_theory.specs.Places.{last_run, value}
 use Rattle.sexp_theory.specs.Machine.{found}
-use Rattle.sexp_theory.specs.Items.{value_item, Taken, Unread, fed, fresh, from_offset, whole_text, taken, taken_of}
+use Rattle.sexp_theory.specs.Items.{value_item, Taken, Unread, fed, fresh, from_offset, whole_text, next_item, taken_of}
 use Rattle.sexp_theory.proofs.AtomTexts.{is_byte, all_bytes}
 use Rattle.sexp_theory.proofs.ReadAgain.{Parted, parted_behind, value_found, whole_found, bare_last, bare_text, plain_parts, bare_parts}
 
@@ -20,12 +21,14 @@ use Rattle.sexp_theory.proofs.ReadAgain.{Parted, parted_behind, value_found, who
 
 bare_of_text : (b : ℕ) → is_bare b ≡ true → is_of_text b ≡ true
 bare_of_text b e =
-    let p = and_parts (nat_le 33 b) (nat_le b 126) (and_parts (nat_le 33 b && nat_le b 126) (not (b == 34 || b == 35 || b == 40 || b == 41 || b == 59 || b == 92 || b == 124)) e).0 in
+    let p = and_parts (nat_le 33 b) (nat_le b 126)
+    (and_parts (nat_le 33 b && nat_le b 126) (not (b == 34 || b == 35 || b == 40 || b == 41 || b == 59 || b == 92 || b == 124)) e).0 in
     and_from (nat_le 32 b) (nat_le b 126) (le-leb 32 b (omega (arith, leb-true 33 b p.0))) p.1
 
 bare_all : (bs : List ℕ) → list_all is_bare bs ≡ true → list_all is_of_text bs ≡ true
 bare_all [] e = refl
-bare_all (b ∷ bs) e = let p = and_parts (is_bare b) (list_all is_bare bs) e in and_from (is_of_text b) (list_all is_of_text bs) (bare_of_text b p.0) (bare_all bs p.1)
+bare_all (b ∷ bs) e = let p = and_parts (is_bare b) (list_all is_bare bs) e in
+    and_from (is_of_text b) (list_all is_of_text bs) (bare_of_text b p.0) (bare_all bs p.1)
 
 quoted_byte_of_text : (b : ℕ) → b < 256 → list_all is_of_text (quoted_byte b) ≡ true
 quoted_byte_of_text b h = agree_below_at (λ b. list_all is_of_text (quoted_byte b)) (λ _. true) 256 b refl h
@@ -74,7 +77,8 @@ text_bytes v h = AllPass-from_list_all is_of_text (text v) (text_of_text v h)
 
 pub no_line_end : (v : Value) (before after : List ℕ) → HasBytes v → text v ≢ before ++ 10 ∷ after
 no_line_end v before after h e =
-    let all : (list_all is_of_text before && list_all is_of_text (10 ∷ after)) ≡ true = sym (list_all-append is_of_text before (10 ∷ after)) ∙ ap (list_all is_of_text) (sym e) ∙ text_of_text v h in
+    let all : (list_all is_of_text before && list_all is_of_text (10 ∷ after)) ≡ true =
+    sym (list_all-append is_of_text before (10 ∷ after)) ∙ ap (list_all is_of_text) (sym e) ∙ text_of_text v h in
     false≢true (and_parts (list_all is_of_text before) (list_all is_of_text (10 ∷ after)) all).1
 
 -- ---- the first byte
@@ -122,12 +126,16 @@ cancel [] ys zs e = e
 cancel (x ∷ xs) ys zs e = let tails : xs ++ ys ≡ xs ++ zs = cc in cancel xs ys zs tails
 
 -- Texts with bytes behind them are the same only for the same value, with the same bytes behind it.
-one_atom : (bs cs r s : List ℕ) → All (λ b. b < 256) bs → All (λ b. b < 256) cs → Parted r → Parted s → atom_text bs ++ r ≡ atom_text cs ++ s → (atom bs ≡ atom cs) × (r ≡ s)
+one_atom : (bs cs r s : List ℕ) → All (λ b. b < 256) bs → All (λ b. b < 256) cs → Parted r → Parted s
+    → atom_text bs ++ r ≡ atom_text cs ++ s → (atom bs ≡ atom cs) × (r ≡ s)
 one_atom bs cs r s h k p q e =
     let limit = length (atom_text bs) + length (atom_text cs) in
-    let found_one : found limit 0 (atom_text bs ++ r) ≡ value (atom bs) 0 (0 + length (atom_text bs)) = value_found limit 0 (atom bs) r h (omega arith) (omega arith) p in
-    let found_other : found limit 0 (atom_text cs ++ s) ≡ value (atom cs) 0 (0 + length (atom_text cs)) = value_found limit 0 (atom cs) s k (omega arith) (omega arith) q in
-    let equal : value (atom bs) 0 (0 + length (atom_text bs)) ≡ value (atom cs) 0 (0 + length (atom_text cs)) = sym found_one ∙ ap (found limit 0) e ∙ found_other in
+    let found_one : found limit 0 (atom_text bs ++ r) ≡ value (atom bs) 0 (0 + length (atom_text bs)) =
+    value_found limit 0 (atom bs) r h (omega arith) (omega arith) p in
+    let found_other : found limit 0 (atom_text cs ++ s) ≡ value (atom cs) 0 (0 + length (atom_text cs)) =
+    value_found limit 0 (atom cs) s k (omega arith) (omega arith) q in
+    let equal : value (atom bs) 0 (0 + length (atom_text bs)) ≡ value (atom cs) 0 (0 + length (atom_text cs)) = sym found_one
+    ∙ ap (found limit 0) e ∙ found_other in
     let values : bs ≡ cs = cc in
     (ap atom values, cancel (atom_text bs) r s (e ∙ ap (λ xs. atom_text xs ++ s) (sym values)))
 
@@ -135,7 +143,8 @@ no_list : (bs : List ℕ) (vs : Values) (r s : List ℕ) → atom_text bs ++ r �
 no_list bs vs r s e = (atom_starts bs r).no_opening (ap first e)
 
 texts_start : (v : Value) (vs : Values) (rest : List ℕ) → first (texts (cons v vs) ++ rest) ≡ 41 → ⊥
-texts_start v vs rest e = no_closing_first v (texts_behind v vs ++ rest) (ap first (sym (append_assoc (text v) (texts_behind v vs) rest)) ∙ e)
+texts_start v vs rest e = no_closing_first v (texts_behind v vs ++ rest) (ap first (sym (append_assoc (text v) (texts_behind v vs) rest))
+    ∙ e)
 
 behind_starts : (before v : Value) (vs : Values) (rest : List ℕ) → first (texts_behind before (cons v vs) ++ rest) ≡ 41 → ⊥
 behind_starts (atom bytes) v vs rest e = false≢true (eq-eqb 32 41 e)
@@ -149,7 +158,8 @@ regroup v w vs ws r s e = sym (append_assoc (text v) (texts_behind v vs) r) ∙ 
 tails : (x : ℕ) (xs ys : List ℕ) → x ∷ xs ≡ x ∷ ys → xs ≡ ys
 tails x xs ys e = cc
 
-without_space : (before v w : Value) (vs ws : Values) (r s : List ℕ) → texts_behind before (cons v vs) ++ r ≡ texts_behind before (cons w ws) ++ s
+without_space : (before v w : Value) (vs ws : Values) (r s : List ℕ)
+    → texts_behind before (cons v vs) ++ r ≡ texts_behind before (cons w ws) ++ s
     → text v ++ (texts_behind v vs ++ r) ≡ text w ++ (texts_behind w ws ++ s)
 without_space (atom bytes) v w vs ws r s e = regroup v w vs ws r s (tails 32 _ _ e)
 without_space (list us) (atom bs) (atom cs) vs ws r s e = regroup (atom bs) (atom cs) vs ws r s (tails 32 _ _ e)
@@ -172,16 +182,19 @@ mutual
   one_list nil (cons w ws) r s h k e = absurd (texts_start w ws (41 ∷ s) (ap first (sym e)))
   one_list (cons v vs) nil r s h k e = absurd (texts_start v vs (41 ∷ r) (ap first e))
   one_list (cons v vs) (cons w ws) r s h k e =
-      let one = one_value v w (texts_behind v vs ++ 41 ∷ r) (texts_behind w ws ++ 41 ∷ s) h.0 k.0 (parted_behind v vs (41 ∷ r) refl) (parted_behind w ws (41 ∷ s) refl) (regroup v w vs ws (41 ∷ r) (41 ∷ s) e) in
+      let one = one_value v w (texts_behind v vs ++ 41 ∷ r) (texts_behind w ws ++ 41 ∷ s) h.0 k.0 (parted_behind v vs (41 ∷ r) refl)
+      (parted_behind w ws (41 ∷ s) refl) (regroup v w vs ws (41 ∷ r) (41 ∷ s) e) in
       let more = one_behind v vs ws r s h.1 k.1 (one.1 ∙ ap (λ u. texts_behind u ws ++ 41 ∷ s) (sym one.0)) in
       (ap (λ u. cons u vs) one.0 ∙ ap (cons w) more.0, more.1)
 
-  one_behind : (before : Value) (vs ws : Values) (r s : List ℕ) → HaveBytes vs → HaveBytes ws → texts_behind before vs ++ 41 ∷ r ≡ texts_behind before ws ++ 41 ∷ s → (vs ≡ ws) × (r ≡ s)
+  one_behind : (before : Value) (vs ws : Values) (r s : List ℕ) → HaveBytes vs → HaveBytes ws
+      → texts_behind before vs ++ 41 ∷ r ≡ texts_behind before ws ++ 41 ∷ s → (vs ≡ ws) × (r ≡ s)
   one_behind before nil nil r s h k e = (refl, tails 41 r s e)
   one_behind before nil (cons w ws) r s h k e = absurd (behind_starts before w ws (41 ∷ s) (ap first (sym e)))
   one_behind before (cons v vs) nil r s h k e = absurd (behind_starts before v vs (41 ∷ r) (ap first e))
   one_behind before (cons v vs) (cons w ws) r s h k e =
-      let one = one_value v w (texts_behind v vs ++ 41 ∷ r) (texts_behind w ws ++ 41 ∷ s) h.0 k.0 (parted_behind v vs (41 ∷ r) refl) (parted_behind w ws (41 ∷ s) refl) (without_space before v w vs ws (41 ∷ r) (41 ∷ s) e) in
+      let one = one_value v w (texts_behind v vs ++ 41 ∷ r) (texts_behind w ws ++ 41 ∷ s) h.0 k.0 (parted_behind v vs (41 ∷ r) refl)
+      (parted_behind w ws (41 ∷ s) refl) (without_space before v w vs ws (41 ∷ r) (41 ∷ s) e) in
       let more = one_behind v vs ws r s h.1 k.1 (one.1 ∙ ap (λ u. texts_behind u ws ++ 41 ∷ s) (sym one.0)) in
       (ap (λ u. cons u vs) one.0 ∙ ap (cons w) more.0, more.1)
 
@@ -200,40 +213,52 @@ nothing_left v k e =
     let last : ℕ → List ℕ → Taken = λ n ys. record { item = value_item v 0 n; rest = record { bytes = ys; at = n; skipping = false } } in
     ap (λ n. up_to v n (text v)) e ∙ ap (last (length (text v))) none
 
-pub sole_taken : (limit : ℕ) (v : Value) → HasBytes v → nesting v ≤ 256 → length (text v) ≤ limit → taken limit true (whole_text (text v)) ≡ Some (sole_item v)
+pub sole_taken : (limit : ℕ) (v : Value) → HasBytes v → nesting v ≤ 256 → length (text v) ≤ limit
+    → next_item limit true (whole_text (text v)) ≡ Some (sole_item v)
 sole_taken limit v h deep fits = by v (is_bare_value v) refl h deep fits
   where
-    by : (v : Value) (t : Bool) → is_bare_value v ≡ t → HasBytes v → nesting v ≤ 256 → length (text v) ≤ limit → taken limit true (whole_text (text v)) ≡ Some (sole_item v)
+    by : (v : Value) (t : Bool) → is_bare_value v ≡ t → HasBytes v → nesting v ≤ 256 → length (text v) ≤ limit
+        → next_item limit true (whole_text (text v)) ≡ Some (sole_item v)
     by v false e h deep fits =
-        let there : found limit 0 (text v) ≡ value v 0 (0 + length (text v)) = ap (found limit 0) (sym (append-nil (text v))) ∙ whole_found limit 0 v [] h deep fits e in
+        let there : found limit 0 (text v) ≡ value v 0 (0 + length (text v)) = ap (found limit 0) (sym (append-nil (text v)))
+        ∙ whole_found limit 0 v [] h deep fits e in
         ap (taken_of true (whole_text (text v))) there ∙ ap Some (nothing_left v (0 + length (text v)) (omega arith))
     by (list vs) true e h deep fits = absurd (false≢true e)
     by (atom bytes) true e h deep fits =
         let same = bare_text bytes e in
-        let there : found limit 0 (atom_text bytes) ≡ last_run bytes 0 = ap (found limit 0) same ∙ bare_last limit 0 bytes e (subst (λ xs. length xs ≤ limit) same fits) in
-        ap (taken_of true (whole_text (atom_text bytes))) there ∙ ap Some (nothing_left (atom bytes) (0 + length (atom_text bytes)) (omega arith))
+        let there : found limit 0 (atom_text bytes) ≡ last_run bytes 0 = ap (found limit 0) same
+        ∙ bare_last limit 0 bytes e (subst (λ xs. length xs ≤ limit) same fits) in
+        ap (taken_of true (whole_text (atom_text bytes))) there
+        ∙ ap Some (nothing_left (atom bytes) (0 + length (atom_text bytes)) (omega arith))
 
-pub at_the_end : (limit at : ℕ) (v : Value) → HasBytes v → length (text v) ≤ limit → is_bare_value v ≡ true → (found limit at (text v) ≡ last_run (text v) at) × (v ≡ atom (text v))
+pub at_the_end : (limit at : ℕ) (v : Value) → HasBytes v → length (text v) ≤ limit → is_bare_value v ≡ true
+    → (found limit at (text v) ≡ last_run (text v) at) × (v ≡ atom (text v))
 at_the_end limit at (list vs) h fits e = absurd (false≢true e)
 at_the_end limit at (atom bytes) h fits e =
-    let same = bare_text bytes e in
-    (ap (found limit at) same ∙ bare_last limit at bytes e (subst (λ xs. length xs ≤ limit) same fits) ∙ ap (λ xs. last_run xs at) (sym same), ap atom (sym same))
+    let same = bare_text bytes e in (
+      ap (found limit at) same ∙ bare_last limit at bytes e (subst (λ xs. length xs ≤ limit) same fits)
+          ∙ ap (λ xs. last_run xs at) (sym same),
+      ap atom (sym same),
+    )
 
 -- the first item of a text with a byte 10 behind it
 pub text_taken : (limit : ℕ) (bytes : List ℕ) (v : Value) → IsTextOf bytes v → length bytes ≤ limit
-    → taken limit false (fed (fed fresh bytes) (10 ∷ [])) ≡ Some (up_to v (0 + length bytes) (bytes ++ 10 ∷ []))
+    → next_item limit false (fed (fed fresh bytes) (10 ∷ [])) ≡ Some (up_to v (0 + length bytes) (bytes ++ 10 ∷ []))
 text_taken limit bytes v t fits =
-    let P : List ℕ → Type 0 = λ xs. length xs ≤ limit → taken limit false (fed (fed fresh xs) (10 ∷ [])) ≡ Some (up_to v (0 + length xs) (xs ++ 10 ∷ [])) in
-    subst P t.written (λ f. ap (taken_of false (fed (fed fresh (text v)) (10 ∷ []))) (value_found limit 0 v (10 ∷ []) t.of_bytes t.shallow f refl)) fits
+    let P : List ℕ → Type 0 = λ xs. length xs ≤ limit
+    → next_item limit false (fed (fed fresh xs) (10 ∷ [])) ≡ Some (up_to v (0 + length xs) (xs ++ 10 ∷ [])) in
+    subst P t.written (λ f. ap (taken_of false (fed (fed fresh (text v)) (10 ∷ [])))
+    (value_found limit 0 v (10 ∷ []) t.of_bytes t.shallow f refl)) fits
 
 -- the same with any bytes behind the byte 10, whether they are the whole input or not
 pub line_taken : (limit : ℕ) (ended : Bool) (v : Value) (rest : List ℕ) → HasBytes v → nesting v ≤ 256 → length (text v) ≤ limit
-    → taken limit ended (fed (whole_text (text v)) (10 ∷ rest)) ≡ Some (first_item v (10 ∷ rest))
+    → next_item limit ended (fed (whole_text (text v)) (10 ∷ rest)) ≡ Some (first_item v (10 ∷ rest))
 line_taken limit ended v rest h deep fits =
     let n : ℕ = length (text v) in
     let u : Unread = fed (whole_text (text v)) (10 ∷ rest) in
     let whole : 0 + n ≡ n = omega arith in
-    let left : drop (n - 0) (text v ++ 10 ∷ rest) ≡ 10 ∷ rest = ap (λ k. drop k (text v ++ 10 ∷ rest)) (omega arith) ∙ drop-append_seam (text v) (10 ∷ rest) in
+    let left : drop (n - 0) (text v ++ 10 ∷ rest) ≡ 10 ∷ rest = ap (λ k. drop k (text v ++ 10 ∷ rest)) (omega arith)
+    ∙ drop-append_seam (text v) (10 ∷ rest) in
     ap (taken_of ended u) (value_found limit 0 v (10 ∷ rest) h deep fits refl)
     ∙ ap (λ k. Some (record { item = value_item v 0 k; rest = from_offset k u })) whole
     ∙ ap (λ xs. Some (record { item = value_item v 0 n; rest = record { bytes = xs; at = n; skipping = false } })) left

@@ -1,5 +1,6 @@
 -- The machine over bytes inside an item.
-use Rattle.std.proofs.Common.{◌≡◌, ℕ, suc, ◌+◌, ◌-◌, ◌<◌, ◌≤◌, ◌&&◌, List, [], ◌∷◌, ◌++◌, length, Bool, false, not, nat_le, if◌then◌else◌, refl, ap, ◌∙◌, arith}
+use Rattle.std.proofs.Common.{◌≡◌, ℕ, suc, ◌+◌, ◌-◌, ◌<◌, ◌≤◌, ◌&&◌, List, [], ◌∷◌, ◌++◌, length, Bool, false, not, nat_le, if◌then◌else◌}
+use Rattle.std.proofs.Common.{refl, ap, ◌∙◌, arith}
 use Rattle.std.proofs.lemmas.Bool.{and_right, lt-leb}
 use Rattle.sexp_theory.specs.Places.{Found, bad, value}
 use Rattle.sexp_theory.specs.Machine.{State, Step, on, whole, shown, step, start, found_from, is_behind}
@@ -54,9 +55,11 @@ has_room limit n c h = and_right c (nat_le limit n) (lt-leb limit n h)
 
 found_then : (limit from n : ℕ) (s t : State) (b : ℕ) (rest : List ℕ) → step s b ≡ on t → n < limit
     → found_from limit from n s (b ∷ rest) ≡ found_from limit from (n + 1) t rest
-found_then limit from n s t b rest e h = found_next limit from n s b rest (has_room limit n (not (is_behind s b)) h) ∙ ap (found_by limit from n s b rest) e
+found_then limit from n s t b rest e h = found_next limit from n s b rest (has_room limit n (not (is_behind s b)) h)
+    ∙ ap (found_by limit from n s b rest) e
 
-pub found_at : (limit from : ℕ) (s : State) (rest : List ℕ) (n m : ℕ) → n ≡ m → found_from limit from n s rest ≡ found_from limit from m s rest
+pub found_at : (limit from : ℕ) (s : State) (rest : List ℕ) (n m : ℕ) → n ≡ m
+    → found_from limit from n s rest ≡ found_from limit from m s rest
 found_at limit from s rest n m e = ap (λ k. found_from limit from k s rest) e
 
 -- over bytes inside the longest item
@@ -70,7 +73,9 @@ found_more limit from n s t b bs rest (shown kind back) h l is e = cc
 
 pub found_through : (limit from n : ℕ) (s t : State) (xs rest : List ℕ) → through s xs ≡ on t → n + length xs ≤ limit
     → found_from limit from n s (xs ++ rest) ≡ found_from limit from (n + length xs) t rest
-found_through limit from n s t [] rest e h = ap (λ u. found_from limit from n u rest) (same_state s t e) ∙ found_at limit from t rest n (n + 0) (omega arith)
+found_through limit from n s t [] rest e h = ap (λ u. found_from limit from n u rest) (same_state s t e)
+    ∙ found_at limit from t rest n (n + 0) (omega arith)
 found_through limit from n s t (b ∷ bs) rest e h =
-    found_more limit from n s t b bs rest (step s b) (λ u k. found_through limit from (n + 1) u t bs rest k (omega (arith, h))) (omega (arith, h)) refl e
+    found_more limit from n s t b bs rest (step s b) (λ u k. found_through limit from (n + 1) u t bs rest k (omega (arith, h)))
+    (omega (arith, h)) refl e
     ∙ found_at limit from t rest (n + 1 + length bs) (n + suc (length bs)) (omega arith)

@@ -1,10 +1,13 @@
 -- What stands first in a text lies in it.
-use Rattle.std.proofs.Common.{◌≡◌, ℕ, ◌+◌, ◌-◌, ◌*◌, ◌<◌, ◌≤◌, ◌&&◌, ◌||◌, ◌==◌, List, [], ◌∷◌, ◌++◌, length, Bool, true, false, not, nat_le, nat_lt, if◌then◌else◌, refl, subst, arith}
+use Rattle.std.proofs.Common.{◌≡◌, ℕ, ◌+◌, ◌-◌, ◌*◌, ◌<◌, ◌≤◌, ◌&&◌, ◌||◌, ◌==◌, List, [], ◌∷◌, ◌++◌, length, Bool, true, false, not}
+use Rattle.std.proofs.Common.{nat_le, nat_lt, if◌then◌else◌, refl, subst, arith}
 use Rattle.std.specs.Char.{digit_value}
 use Rattle.sexp_theory.specs.Values.{Value, atom, list, values}
 use Rattle.sexp_theory.specs.Signs.{is_blank, is_delimiter, is_decimal, is_hexadecimal, letter_value}
 use Rattle.sexp_theory.specs.Places.{most_lists, Found, nothing, unfinished, last_run, value, bad}
-use Rattle.sexp_theory.specs.Machine.{Mode, between, commented, run, hash, quoted, escaped, decimal1, decimal2, hexadecimal0, hexadecimal1, State, Step, on, whole, shown, step, step_in, step_between, step_behind_run, step_run, ends_value, closes, run_mode, start, is_outer_run, is_behind, found_from, found, found_behind_line}
+use Rattle.sexp_theory.specs.Machine.{Mode, between, commented, run, hash, quoted, escaped, decimal1, decimal2, hexadecimal0}
+use Rattle.sexp_theory.specs.Machine.{hexadecimal1, State, Step, on, whole, shown, step, step_in, step_between, step_behind_run, step_run}
+use Rattle.sexp_theory.specs.Machine.{ends_value, closes, run_mode, start, is_outer_run, is_behind, found_from, found, found_behind_line}
 use Rattle.sexp_theory.specs.declared.input.BadKind.TheVariants.{TooDeep, TooLong, HashBar}
 
 -- how many bytes of the item a mode has behind it, at the least
@@ -47,7 +50,8 @@ closes-within r (vs ∷ lists) = ends_value-within r (list (values vs)) lists
 between-within : (r : ℕ) (lists : List (List Value)) (b : ℕ) → StepWithin r (step_between lists b)
 between-within r lists b =
     either r (is_blank b) _ _ (omega arith) (either r (b == 59) _ _ (omega arith) (either r (b == 40) _ _
-    (either r (nat_lt (length lists) most_lists) (on (record { mode = between; atom = []; lists = [] ∷ lists })) (shown TooDeep 0) (omega arith) (omega arith))
+    (either r (nat_lt (length lists) most_lists) (on (record { mode = between; atom = []; lists = [] ∷ lists })) (shown TooDeep 0)
+    (omega arith) (omega arith))
     (either r (b == 41) _ _ (closes-within r lists) (either r (b == 34) _ _ (omega arith) (run_mode-within r b)))))
 
 behind_run-within : (r : ℕ) (bytes : List ℕ) (lists : List (List Value)) (b : ℕ) → StepWithin r (step_behind_run bytes lists b)
@@ -69,7 +73,8 @@ step-within hash s b = either 1 (b == 59 || b == 124) (shown HashBar 1) (step_ru
 step-within quoted s b =
     either 0 (b == 34) _ _ (ends_value-within 0 (atom s.atom) s.lists) (either 0 (b == 92) _ _ (omega arith) (omega arith))
 step-within escaped s b =
-    either 1 (nat_lt (letter_value b) 256) _ _ (omega arith) (either 1 (b == 120) _ _ (omega arith) (either 1 (nat_lt (digit_value b) 3) _ _ (omega arith) (omega arith)))
+    either 1 (nat_lt (letter_value b) 256) _ _ (omega arith)
+    (either 1 (b == 120) _ _ (omega arith) (either 1 (nat_lt (digit_value b) 3) _ _ (omega arith) (omega arith)))
 step-within (decimal1 n) s b = either 2 (is_decimal b && nat_lt (n * 100 + digit_value b * 10) 256) _ _ (omega arith) (omega arith)
 step-within (decimal2 n) s b = either 3 (is_decimal b && nat_lt (n * 10 + digit_value b) 256) _ _ (omega arith) (omega arith)
 step-within hexadecimal0 s b = either 2 (is_hexadecimal b) _ _ (omega arith) (omega arith)
@@ -81,7 +86,7 @@ IsWithin from end nothing = Unit {0}
 IsWithin from end (unfinished first) = (from ≤ first) × (first < end)
 IsWithin from end (last_run bytes first) = (from ≤ first) × (first < end)
 IsWithin from end (value v first to) = (from ≤ first) × (first < to) × (to ≤ end)
-IsWithin from end (bad kind place) = (from ≤ place) × (place < end)
+IsWithin from end (bad kind offset) = (from ≤ offset) × (offset < end)
 
 abbrev after : ℕ → ℕ → ℕ → Bool → Step → List ℕ → Found
 after limit from n behind x rest =
@@ -91,12 +96,14 @@ after limit from n behind x rest =
       | shown kind back ↦ bad kind (from + n - back)
     ]
 
-behind-some : (mode : Mode) (lists : List (List Value)) (b n : ℕ) → reach mode ≤ n → is_outer_run mode lists && is_delimiter b ≡ true → 0 < n
+behind-some : (mode : Mode) (lists : List (List Value)) (b n : ℕ) → reach mode ≤ n → is_outer_run mode lists && is_delimiter b ≡ true
+    → 0 < n
 behind-some run lists b n h e = omega (arith, h)
 behind-some hash lists b n h e = omega (arith, h)
 behind-some mode lists b n h e = absurd (cc)
 
-pub found_from-within : (limit from n : ℕ) (s : State) (text : List ℕ) → reach s.mode ≤ n → 0 < n + length text → IsWithin from (from + n + length text) (found_from limit from n s text)
+pub found_from-within : (limit from n : ℕ) (s : State) (text : List ℕ) → reach s.mode ≤ n → 0 < n + length text
+    → IsWithin from (from + n + length text) (found_from limit from n s text)
 found_from-within limit from n s [] h some = by (is_outer_run s.mode s.lists)
   where
     by : (c : Bool) → IsWithin from (from + n + 0) (if c then last_run s.atom from else unfinished from)
@@ -110,7 +117,8 @@ found_from-within limit from n s (b ∷ rest) h some =
         → ((t : State) → reach t.mode ≤ n + 1 → IsWithin from (from + (n + 1) + length rest) (found_from limit from (n + 1) t rest))
         → IsWithin from (from + n + length (b ∷ rest)) (if c then bad TooLong (from + n) else after limit from n d x rest)
     by true x w d k f = (omega arith, omega arith)
-    by false (on t) w d k f = subst (λ end. IsWithin from end (found_from limit from (n + 1) t rest)) (omega arith) (f t (omega (arith, w, h)))
+    by false (on t) w d k f = subst (λ end. IsWithin from end (found_from limit from (n + 1) t rest)) (omega arith)
+        (f t (omega (arith, w, h)))
     by false (whole v) w true k f = (omega arith, omega (arith, k refl), omega arith)
     by false (whole v) w false k f = (omega arith, omega arith, omega arith)
     by false (shown kind back) w d k f = (omega (arith, w, h), omega arith)
@@ -121,30 +129,39 @@ earlier a from end nothing h w = tt
 earlier a from end (unfinished first) h w = (omega (arith, h, w.0), w.1)
 earlier a from end (last_run bytes first) h w = (omega (arith, h, w.0), w.1)
 earlier a from end (value v first to) h w = (omega (arith, h, w.0), w.1, w.2)
-earlier a from end (bad kind place) h w = (omega (arith, h, w.0), w.1)
+earlier a from end (bad kind offset) h w = (omega (arith, h, w.0), w.1)
 
-one_earlier : (at : ℕ) (b : ℕ) (rest : List ℕ) (f : Found) → IsWithin (at + 1) (at + 1 + length rest) f → IsWithin at (at + length (b ∷ rest)) f
-one_earlier at b rest f w = earlier at (at + 1) (at + length (b ∷ rest)) f (omega arith) (subst (λ end. IsWithin (at + 1) end f) (omega arith) w)
+one_earlier : (at : ℕ) (b : ℕ) (rest : List ℕ) (f : Found) → IsWithin (at + 1) (at + 1 + length rest) f
+    → IsWithin at (at + length (b ∷ rest)) f
+one_earlier at b rest f w = earlier at (at + 1) (at + length (b ∷ rest)) f (omega arith)
+    (subst (λ end. IsWithin (at + 1) end f) (omega arith) w)
 
 mutual
   pub found-within : (limit at : ℕ) (text : List ℕ) → IsWithin at (at + length text) (found limit at text)
   found-within limit at [] = tt
   found-within limit at (b ∷ rest) =
-      by (is_blank b) (b == 59) (one_earlier at b rest _ (found-within limit (at + 1) rest)) (one_earlier at b rest _ (found_behind_line-within limit (at + 1) rest))
-      (subst (λ end. IsWithin at end (found_from limit at 0 start (b ∷ rest))) (omega arith) (found_from-within limit at 0 start (b ∷ rest) (omega arith) (omega arith)))
+      by (is_blank b) (b == 59) (one_earlier at b rest _ (found-within limit (at + 1) rest))
+      (one_earlier at b rest _ (found_behind_line-within limit (at + 1) rest))
+      (subst (λ end. IsWithin at end (found_from limit at 0 start (b ∷ rest))) (omega arith)
+      (found_from-within limit at 0 start (b ∷ rest) (omega arith) (omega arith)))
     where
-      by : (c d : Bool) → IsWithin at (at + length (b ∷ rest)) (found limit (at + 1) rest) → IsWithin at (at + length (b ∷ rest)) (found_behind_line limit (at + 1) rest)
+      by : (c d : Bool) → IsWithin at (at + length (b ∷ rest)) (found limit (at + 1) rest)
+          → IsWithin at (at + length (b ∷ rest)) (found_behind_line limit (at + 1) rest)
           → IsWithin at (at + length (b ∷ rest)) (found_from limit at 0 start (b ∷ rest))
-          → IsWithin at (at + length (b ∷ rest)) (if c then found limit (at + 1) rest else (if d then found_behind_line limit (at + 1) rest else found_from limit at 0 start (b ∷ rest)))
+          → IsWithin at (at + length (b ∷ rest)) (if c then found limit (at + 1) rest else
+          (if d then found_behind_line limit (at + 1) rest else found_from limit at 0 start (b ∷ rest)))
       by true d f g k = f
       by false true f g k = g
       by false false f g k = k
 
   pub found_behind_line-within : (limit at : ℕ) (text : List ℕ) → IsWithin at (at + length text) (found_behind_line limit at text)
   found_behind_line-within limit at [] = tt
-  found_behind_line-within limit at (b ∷ rest) = by (b == 10) (one_earlier at b rest _ (found-within limit (at + 1) rest)) (one_earlier at b rest _ (found_behind_line-within limit (at + 1) rest))
+  found_behind_line-within limit at (b ∷ rest) =
+      by (b == 10) (one_earlier at b rest _ (found-within limit (at + 1) rest))
+      (one_earlier at b rest _ (found_behind_line-within limit (at + 1) rest))
     where
-      by : (c : Bool) → IsWithin at (at + length (b ∷ rest)) (found limit (at + 1) rest) → IsWithin at (at + length (b ∷ rest)) (found_behind_line limit (at + 1) rest)
+      by : (c : Bool) → IsWithin at (at + length (b ∷ rest)) (found limit (at + 1) rest)
+          → IsWithin at (at + length (b ∷ rest)) (found_behind_line limit (at + 1) rest)
           → IsWithin at (at + length (b ∷ rest)) (if c then found limit (at + 1) rest else found_behind_line limit (at + 1) rest)
       by true f g = f
       by false f g = g

@@ -1,5 +1,6 @@
 -- The items of a text.
-use Rattle.std.specs.Prelude.{ℕ, zero, suc, ◌+◌, ◌-◌, ◌==◌, List, [], ◌∷◌, ◌++◌, length, drop, Bool, true, false, Option, Some, None, if◌then◌else◌}
+use Rattle.std.specs.Prelude.{ℕ, zero, suc, ◌+◌, ◌-◌, ◌==◌, List, [], ◌∷◌, ◌++◌, length, drop, Bool, true, false, Option, Some, None}
+use Rattle.std.specs.Prelude.{if◌then◌else◌}
 use Rattle.sexp_theory.specs.Values.{Value, atom}
 use Rattle.sexp_theory.specs.Signs.{is_blank}
 use Rattle.sexp_theory.specs.Places.{Found, nothing, unfinished, last_run, value, bad}
@@ -19,31 +20,40 @@ pub record Unread : Type 0 where
   pub at : ℕ
   pub skipping : Bool
 
+-- what stands first in what is unread, computed
 abbrev pub first_of : ℕ → Unread → Found
 first_of limit u = if u.skipping then found_behind_line limit u.at u.bytes else found limit u.at u.bytes
 
 -- what is unread from an offset on
 abbrev pub from_offset : ℕ → Unread → Unread
-from_offset place u = record { bytes = drop (place - u.at) u.bytes; at = place; skipping = false }
+from_offset offset u = record { bytes = drop (offset - u.at) u.bytes; at = offset; skipping = false }
 
 -- the bytes without the blanks, comments and passed over lines at their front
 abbrev mutual
+  -- behind blanks and comments, from an offset on
   pub behind_gap : ℕ → List ℕ → Unread
   behind_gap at [] = record { bytes = []; at = at; skipping = false }
   behind_gap at (b ∷ rest) =
-      if is_blank b then behind_gap (at + 1) rest else (if b == 59 then behind_line (at + 1) rest else record { bytes = b ∷ rest; at = at; skipping = false })
+      if is_blank b then behind_gap (at + 1) rest else
+      (if b == 59 then behind_line (at + 1) rest else record { bytes = b ∷ rest; at = at; skipping = false })
 
+  -- behind the rest of a line, and the blanks and comments that follow it
   pub behind_line : ℕ → List ℕ → Unread
   behind_line at [] = record { bytes = []; at = at; skipping = true }
   behind_line at (b ∷ rest) = if b == 10 then behind_gap (at + 1) rest else behind_line (at + 1) rest
 
+-- what is unread, without what stands in front of its first item
 abbrev pub without_gap : Unread → Unread
 without_gap u = if u.skipping then behind_line u.at u.bytes else behind_gap u.at u.bytes
 
 -- what is unread behind a line whose bytes from an offset on are these: the line ends with its first byte 10
 abbrev pub behind_rest_of_line : ℕ → List ℕ → Unread
 behind_rest_of_line at [] = record { bytes = []; at = at; skipping = true }
-behind_rest_of_line at (b ∷ rest) = if b == 10 then record { bytes = rest; at = at + 1; skipping = false } else behind_rest_of_line (at + 1) rest
+behind_rest_of_line at (b ∷ rest) = if b == 10 then record {
+  bytes = rest;
+  at = at + 1;
+  skipping = false;
+} else behind_rest_of_line (at + 1) rest
 
 -- the first item, and what is unread behind it
 pub record Taken : Type 0 where
@@ -54,17 +64,22 @@ pub record Taken : Type 0 where
 abbrev pub taken_of : Bool → Unread → Found → Option Taken
 taken_of ended u nothing = None
 taken_of ended u (unfinished from) = None
-taken_of ended u (last_run run from) = if ended then Some (record { item = value_item (atom run) from (u.at + length u.bytes); rest = from_offset (u.at + length u.bytes) u }) else None
+taken_of ended u (last_run run from) = if ended then Some
+    (record { item = value_item (atom run) from (u.at + length u.bytes); rest = from_offset (u.at + length u.bytes) u }) else None
 taken_of ended u (value v from to) = Some (record { item = value_item v from to; rest = from_offset to u })
-taken_of ended u (bad kind place) = Some (record { item = bad_item place kind; rest = behind_rest_of_line place (drop (place - u.at) u.bytes) })
+taken_of ended u (bad kind offset) = Some (record {
+  item = bad_item offset kind;
+  rest = behind_rest_of_line offset (drop (offset - u.at) u.bytes);
+})
 
-abbrev pub taken : ℕ → Bool → Unread → Option Taken
-taken limit ended u = taken_of ended u (first_of limit u)
+-- the first item of what is unread, and what is unread behind it; none where no item is whole
+abbrev pub next_item : ℕ → Bool → Unread → Option Taken
+next_item limit ended u = taken_of ended u (first_of limit u)
 
 -- the items of the bytes, at most so many
 abbrev pub items_up_to : ℕ → ℕ → Bool → Unread → List Item
 items_up_to limit zero ended u = []
-items_up_to limit (suc most) ended u = elim (taken limit ended u) [ None ↦ [] | Some t ↦ t.item ∷ items_up_to limit most ended t.rest ]
+items_up_to limit (suc most) ended u = elim (next_item limit ended u) [ None ↦ [] | Some t ↦ t.item ∷ items_up_to limit most ended t.rest ]
 
 -- the items of the bytes: each has a byte at least
 abbrev pub items_of : ℕ → Bool → Unread → List Item
@@ -94,8 +109,10 @@ end_of_found other = Clean
 -- how the input ends that has these bytes left and at most so many items more
 abbrev pub end_up_to : ℕ → ℕ → Unread → InputEnd
 end_up_to limit zero u = end_of_found (first_of limit u)
-end_up_to limit (suc most) u = elim (taken limit true u) [ None ↦ end_of_found (first_of limit u) | Some t ↦ end_up_to limit most t.rest ]
+end_up_to limit (suc most) u = elim (next_item limit true u)
+    [ None ↦ end_of_found (first_of limit u) | Some t ↦ end_up_to limit most t.rest ]
 
+-- how the input ends whose last bytes are unread
 abbrev pub end_of : ℕ → Unread → InputEnd
 end_of limit u = end_up_to limit (length u.bytes) u
 

@@ -5,5 +5,5 @@ pub mod Spelling
 pub mod Places
 pub mod Machine
 pub mod Items
-pub mod Reading
+pub mod ItemWords
 pub mod Written

@@ -1,5 +1,6 @@
 -- What stands first in a text, computed byte by byte. It is joined to the words of Spelling and Places by the laws of this crate.
-use Rattle.std.specs.Prelude.{ℕ, ◌+◌, ◌-◌, ◌*◌, ◌&&◌, ◌||◌, ◌==◌, List, [], ◌∷◌, ◌++◌, length, Bool, true, false, not, nat_lt, nat_le, if◌then◌else◌}
+use Rattle.std.specs.Prelude.{ℕ, ◌+◌, ◌-◌, ◌*◌, ◌&&◌, ◌||◌, ◌==◌, List, [], ◌∷◌, ◌++◌, length, Bool, true, false, not, nat_lt, nat_le}
+use Rattle.std.specs.Prelude.{if◌then◌else◌}
 use Rattle.std.specs.Char.{digit_value}
 use Rattle.sexp_theory.specs.Values.{Value, atom, list, values}
 use Rattle.sexp_theory.specs.Signs.{is_blank, is_delimiter, is_decimal, is_hexadecimal, letter_value}
@@ -29,6 +30,7 @@ pub data Step : Type 0 where
   whole : Value → Step
   shown : BadKind → ℕ → Step
 
+-- the item goes on in another mode
 abbrev pub in_mode : Mode → State → Step
 in_mode mode s = on (record { mode = mode; atom = s.atom; lists = s.lists })
 
@@ -41,10 +43,12 @@ abbrev pub ends_value : Value → List (List Value) → Step
 ends_value v [] = whole v
 ends_value v (vs ∷ lists) = on (record { mode = between; atom = []; lists = (vs ++ v ∷ []) ∷ lists })
 
+-- a `)`: the innermost list is a value
 abbrev pub closes : List (List Value) → Step
 closes [] = shown StrayClose 0
 closes (vs ∷ lists) = ends_value (list (values vs)) lists
 
+-- a `(`: one list more is open
 abbrev pub opens : List (List Value) → Step
 opens lists = if nat_lt (length lists) most_lists then on (record { mode = between; atom = []; lists = [] ∷ lists }) else shown TooDeep 0
 
@@ -67,15 +71,19 @@ abbrev pub step_behind_run : List ℕ → List (List Value) → ℕ → Step
 step_behind_run bytes [] b = whole (atom bytes)
 step_behind_run bytes (vs ∷ lists) b = step_between ((vs ++ atom bytes ∷ []) ∷ lists) b
 
+-- a byte behind one of a run that is no `#`
 abbrev pub step_run : State → ℕ → Step
 step_run s b = if is_delimiter b then step_behind_run s.atom s.lists b else add_byte (run_mode b) b s
 
+-- a byte behind a `#` of a run
 abbrev pub step_hash : State → ℕ → Step
 step_hash s b = if b == 59 || b == 124 then shown HashBar 1 else step_run s b
 
+-- a byte between quotes
 abbrev pub step_quoted : State → ℕ → Step
 step_quoted s b = if b == 34 then ends_value (atom s.atom) s.lists else (if b == 92 then in_mode escaped s else add_byte quoted b s)
 
+-- a byte behind the backslash of an escape
 abbrev pub step_escaped : State → ℕ → Step
 step_escaped s b =
     if nat_lt (letter_value b) 256 then add_byte quoted (letter_value b) s
@@ -84,17 +92,23 @@ step_escaped s b =
 
 -- the next of three decimal digits, whose number so far is n: the third has to leave it below 256
 abbrev pub step_decimal1 : ℕ → State → ℕ → Step
-step_decimal1 n s b = if is_decimal b && nat_lt (n * 100 + digit_value b * 10) 256 then in_mode (decimal2 (n * 10 + digit_value b)) s else shown BadEscape 2
+step_decimal1 n s b = if is_decimal b && nat_lt (n * 100 + digit_value b * 10) 256 then in_mode (decimal2 (n * 10 + digit_value b)) s else
+    shown BadEscape 2
 
+-- the third digit of an escape, behind two of this value
 abbrev pub step_decimal2 : ℕ → State → ℕ → Step
-step_decimal2 n s b = if is_decimal b && nat_lt (n * 10 + digit_value b) 256 then add_byte quoted (n * 10 + digit_value b) s else shown BadEscape 3
+step_decimal2 n s b = if is_decimal b && nat_lt (n * 10 + digit_value b) 256 then add_byte quoted (n * 10 + digit_value b) s else shown
+    BadEscape 3
 
+-- the first digit of a hexadecimal escape
 abbrev pub step_hexadecimal0 : State → ℕ → Step
 step_hexadecimal0 s b = if is_hexadecimal b then in_mode (hexadecimal1 (digit_value b)) s else shown BadEscape 2
 
+-- the second digit of a hexadecimal escape, behind one of this value
 abbrev pub step_hexadecimal1 : ℕ → State → ℕ → Step
 step_hexadecimal1 n s b = if is_hexadecimal b then add_byte quoted (n * 16 + digit_value b) s else shown BadEscape 3
 
+-- what a byte makes of an item in a mode
 abbrev pub step_in : Mode → State → ℕ → Step
 step_in between s b = step_between s.lists b
 step_in commented s b = in_mode (if b == 10 then between else commented) s
@@ -107,6 +121,7 @@ step_in (decimal2 n) s b = step_decimal2 n s b
 step_in hexadecimal0 s b = step_hexadecimal0 s b
 step_in (hexadecimal1 n) s b = step_hexadecimal1 n s b
 
+-- what a byte makes of an item
 abbrev pub step : State → ℕ → Step
 step s b = step_in s.mode s b
 
@@ -135,11 +150,13 @@ found_from limit from n s (b ∷ rest) =
       | shown kind back ↦ bad kind (from + n - back)
     ]
 
+-- no byte of an item was read
 abbrev pub start : State
 start = record { mode = between; atom = []; lists = [] }
 
 -- what stands first in a text that begins at the offset `at`, and in one that begins inside a line that is passed over
 abbrev mutual
+  -- what stands first in a text that begins at an offset
   pub found : ℕ → ℕ → List ℕ → Found
   found limit at [] = nothing
   found limit at (b ∷ rest) =
@@ -147,6 +164,7 @@ abbrev mutual
       else (if b == 59 then found_behind_line limit (at + 1) rest
       else found_from limit at 0 start (b ∷ rest))
 
+  -- the same in a text that begins inside a line that is passed over
   pub found_behind_line : ℕ → ℕ → List ℕ → Found
   found_behind_line limit at [] = nothing
   found_behind_line limit at (b ∷ rest) = if b == 10 then found limit (at + 1) rest else found_behind_line limit (at + 1) rest

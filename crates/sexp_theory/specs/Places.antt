@@ -27,7 +27,8 @@ most_lists = 256
 abbrev pub IsOpen : ℕ → List ℕ → Type 0
 IsOpen zero bytes = bytes ≡ []
 IsOpen (suc n) bytes =
-    (before inner : List ℕ) × (vs : Values) × (bytes ≡ before ++ 40 ∷ inner) × IsOpen n before × SpellAll inner vs × (nesting_of_all vs + suc n ≤ most_lists)
+    (before inner : List ℕ) × (vs : Values) × (bytes ≡ before ++ 40 ∷ inner) × IsOpen n before × SpellAll inner vs
+    × (nesting_of_all vs + suc n ≤ most_lists)
 
 -- the bytes end in a run, from its first byte on
 pub record IsInRun (lists : ℕ) (bytes before run : List ℕ) : Type 0 where
@@ -92,7 +93,8 @@ pub data Shows (limit : ℕ) (bytes : List ℕ) (b : ℕ) : BadKind → ℕ → 
   hash_comment : (n : ℕ) (before run front : List ℕ) → IsInRun (suc n) bytes before run → bytes ≡ front ++ 35 ∷ [] → b ≡ 59
       → length bytes < limit → Shows limit bytes b HashBar (length front)
   -- the same `;` outside of lists, which is no byte of the item
-  outer_hash_comment : (front : List ℕ) → IsRun bytes → bytes ≡ front ++ 35 ∷ [] → b ≡ 59 → length bytes ≤ limit → Shows limit bytes b HashBar (length front)
+  outer_hash_comment : (front : List ℕ) → IsRun bytes → bytes ≡ front ++ 35 ∷ [] → b ≡ 59 → length bytes ≤ limit
+      → Shows limit bytes b HashBar (length front)
   -- the first byte with which no escape is possible any more: the position is the backslash
   bad_escape : (n : ℕ) (quoted escape : List ℕ) → IsInEscape n bytes quoted escape
       → (BeginsEscape (escape ++ b ∷ []) → ⊥) → ((of : ℕ) → IsByte (escape ++ b ∷ []) of → ⊥)
@@ -108,17 +110,19 @@ pub data Shows (limit : ℕ) (bytes : List ℕ) (b : ℕ) : BadKind → ℕ → 
 abbrev pub IsFound : ℕ → ℕ → List ℕ → Found → Type 0
 IsFound limit at text nothing = IsGap text ⊎ ((gap words : List ℕ) × (text ≡ gap ++ 59 ∷ words) × IsGap gap × AllPass is_of_line words)
 IsFound limit at text (unfinished from) =
-    (gap bytes : List ℕ) × (text ≡ gap ++ bytes) × IsGap gap × IsUnfinished bytes × (IsRun bytes → ⊥) × (length bytes ≤ limit) × (from ≡ at + length gap)
+    (gap bytes : List ℕ) × (text ≡ gap ++ bytes) × IsGap gap × IsUnfinished bytes × (IsRun bytes → ⊥) × (length bytes ≤ limit)
+    × (from ≡ at + length gap)
 IsFound limit at text (last_run run from) =
     (gap : List ℕ) × (text ≡ gap ++ run) × IsGap gap × IsRun run × (length run ≤ limit) × (from ≡ at + length gap)
 IsFound limit at text (value v from to) =
     (gap own rest : List ℕ) × (text ≡ gap ++ (own ++ rest)) × IsGap gap × Spells own v × (IsRun own → rest ≢ []) × Ends own rest
     × (nesting v ≤ most_lists) × (length own ≤ limit) × (from ≡ at + length gap) × (to ≡ from + length own)
-IsFound limit at text (bad kind place) =
+IsFound limit at text (bad kind offset) =
     (gap bytes rest : List ℕ) × (b behind : ℕ) × (text ≡ gap ++ (bytes ++ b ∷ rest)) × IsGap gap
-    × Shows limit bytes b kind behind × (place ≡ at + length gap + behind)
+    × Shows limit bytes b kind behind × (offset ≡ at + length gap + behind)
 
 -- the same in a text that begins inside a line that is passed over
 abbrev pub IsFoundBehindLine : ℕ → ℕ → List ℕ → Found → Type 0
 IsFoundBehindLine limit at text f =
-    (AllPass is_of_line text × (f ≡ nothing)) ⊎ ((words rest : List ℕ) × (text ≡ words ++ 10 ∷ rest) × AllPass is_of_line words × IsFound limit (at + length words + 1) rest f)
+    (AllPass is_of_line text × (f ≡ nothing)) ⊎ ((words rest : List ℕ) × (text ≡ words ++ 10 ∷ rest) × AllPass is_of_line words
+    × IsFound limit (at + length words + 1) rest f)

@@ -21,8 +21,10 @@ pub record IsComment (bytes : List ℕ) : Type 0 where
 abbrev pub IsGapOf : List ℕ → List (List ℕ) → Type 0
 IsGapOf bytes [] = bytes ≡ []
 IsGapOf bytes (piece ∷ pieces) =
-    ((rest : List ℕ) × (bytes ≡ piece ++ rest) × (((b : ℕ) × (piece ≡ b ∷ []) × (is_blank b ≡ true)) ⊎ IsComment piece) × IsGapOf rest pieces)
+    ((rest : List ℕ) × (bytes ≡ piece ++ rest) × (((b : ℕ) × (piece ≡ b ∷ []) × (is_blank b ≡ true)) ⊎ IsComment piece)
+    × IsGapOf rest pieces)
 
+-- blanks and whole comments, or nothing
 abbrev pub IsGap : List ℕ → Type 0
 IsGap bytes = (pieces : List (List ℕ)) × IsGapOf bytes pieces
 

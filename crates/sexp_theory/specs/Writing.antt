@@ -31,10 +31,12 @@ quoted_byte b =
     else (if b == 34 || b == 92 then 92 ∷ b ∷ []
     else decimal_escape b)))))
 
+-- how bytes are written between quotes
 abbrev pub quoted_bytes : List ℕ → List ℕ
 quoted_bytes [] = []
 quoted_bytes (b ∷ bs) = quoted_byte b ++ quoted_bytes bs
 
+-- how an atom is written: without quotes where it may be
 abbrev pub atom_text : List ℕ → List ℕ
 atom_text bytes = if is_bare_atom bytes then bytes else 34 ∷ (quoted_bytes bytes ++ 34 ∷ [])
 
@@ -44,6 +46,7 @@ between (list vs) (list ws) = []
 between v w = 32 ∷ []
 
 abbrev mutual
+  -- the text of a value
   pub text : Value → List ℕ
   text (atom bytes) = atom_text bytes
   text (list vs) = 40 ∷ (texts vs ++ 41 ∷ [])

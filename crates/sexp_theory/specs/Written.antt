@@ -17,16 +17,19 @@ sole_item v = record { item = value_item v 0 (length (text v)); rest = record { 
 -- a bad place, or a value of bytes
 abbrev pub IsOfBytes : Item → Type 0
 IsOfBytes (value_item v from to) = HasBytes v
-IsOfBytes (bad_item place kind) = Unit {0}
+IsOfBytes (bad_item offset kind) = Unit {0}
 
 -- a bad place, or a value with no more lists inside one another than an item may have
 abbrev pub IsShallow : Item → Type 0
 IsShallow (value_item v from to) = nesting v ≤ most_lists
-IsShallow (bad_item place kind) = Unit {0}
+IsShallow (bad_item offset kind) = Unit {0}
 
 -- a value with the text of which a reader's input begins, and a byte behind it that ends it: what is taken
 abbrev pub first_item : Value → List ℕ → Taken
-first_item v behind = record { item = value_item v 0 (length (text v)); rest = record { bytes = behind; at = length (text v); skipping = false } }
+first_item v behind = record {
+  item = value_item v 0 (length (text v));
+  rest = record { bytes = behind; at = length (text v); skipping = false };
+}
 
 -- the bytes are the text of the value, which has no more lists inside one another than an item may have
 pub record IsTextOf (bytes : List ℕ) (v : Value) : Type 0 where

@@ -1,5 +1,6 @@
 -- Bytes put one after the other.
-use Rattle.std.proofs.Common.{◌≡◌, ℕ, ◌+◌, List, [], ◌∷◌, ◌++◌, Option, take, drop, length, refl, sym, ap, ◌∙◌, subst, Bool, true, false, zero, suc, arith, take-append-drop}
+use Rattle.std.proofs.Common.{◌≡◌, ℕ, ◌+◌, List, [], ◌∷◌, ◌++◌, Option, take, drop, length, refl, sym, ap, ◌∙◌, subst, Bool, true, false}
+use Rattle.std.proofs.Common.{zero, suc, arith, take-append-drop}
 use Rattle.std.proofs.Math.Seq.{take-add, take-append-add, take-append_seam}
 use Rattle.std.proofs.lemmas.List.{drop-drop}
 use Rattle.std.proofs.KnownBytes.{Appends-trans, Appends-nil, Appends-kept, Keeps-refl, Keeps-trans}
@@ -7,7 +8,8 @@ use Rattle.std.specs.Io.KnownBytes.{Appends}
 use Rattle.stm_base.specs.Output.{Output, Grew, IsPut}
 
 -- n bytes more of xs are written
-pub Appends-more : (a b c : Option (List ℕ)) (i n : ℕ) (xs : List ℕ) → Appends a b (take i xs) → Appends b c (take n (drop i xs)) → Appends a c (take (i + n) xs)
+pub Appends-more : (a b c : Option (List ℕ)) (i n : ℕ) (xs : List ℕ) → Appends a b (take i xs) → Appends b c (take n (drop i xs))
+    → Appends a c (take (i + n) xs)
 Appends-more a b c i n xs p q = subst (Appends a c) (sym (take-add i n xs)) (Appends-trans a b c _ _ p q)
 
 take-front : (n : ℕ) (xs ys : List ℕ) → (m : ℕ) × (take n xs ≡ take m (xs ++ ys))
@@ -17,7 +19,10 @@ take-front (suc n) (x ∷ xs) ys = let r = take-front n xs ys in (suc r.0, ap (�
 
 Grew-both : (f g h : Bool) (a b c : Option (List ℕ)) (xs ys : List ℕ) → Grew f g a b xs → Grew g h b c ys → Grew f h a c (xs ++ ys)
 Grew-both false false false a b c xs ys p q = Appends-trans a b c xs ys p q
-Grew-both false false true a b c xs ys p q = (length xs + q.0, subst (Appends a c) (sym (take-append-add xs ys q.0)) (Appends-trans a b c xs _ p q.1))
+Grew-both false false true a b c xs ys p q = (
+  length xs + q.0,
+  subst (Appends a c) (sym (take-append-add xs ys q.0)) (Appends-trans a b c xs _ p q.1),
+)
 Grew-both false true true a b c xs ys p q =
     let m = take-front p.0 xs ys in
     (m.0, subst (Appends a c) m.1 (Appends-kept a b c _ p.1 q))
@@ -49,10 +54,18 @@ Grew-none true a = Keeps-refl a
 
 -- nothing is put
 pub IsPut-none : (a : Output) → IsPut a [] a
-IsPut-none a = record { grew = Grew-none a.failed a.written; idle = λ _. refl; later = omega arith; passed = λ _. refl; first_written = refl; first_faults = refl }
+IsPut-none a = record {
+  grew = Grew-none a.failed a.written;
+  idle = λ _. refl;
+  later = omega arith;
+  passed = λ _. refl;
+  first_written = refl;
+  first_faults = refl;
+}
 
 -- bytes that were copied to the front of a buffer
-pub copied : (at n : ℕ) (xs front back : List ℕ) → length front ≡ n → front ≡ take n (drop at xs) → drop at xs ≡ take n (front ++ back) ++ drop (at + n) xs
+pub copied : (at n : ℕ) (xs front back : List ℕ) → length front ≡ n → front ≡ take n (drop at xs)
+    → drop at xs ≡ take n (front ++ back) ++ drop (at + n) xs
 copied at n xs front back e f =
     sym (take-append-drop n (drop at xs)) ∙ ap (λ l. take n (drop at xs) ++ l) (drop-drop n at xs)
     ∙ ap (λ l. l ++ drop (at + n) xs) (sym f ∙ sym (take-append_seam front back) ∙ ap (λ k. take k (front ++ back)) e)

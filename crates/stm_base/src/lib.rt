@@ -33,6 +33,9 @@ use thiserror::Error;
 pub struct Failed;
 
 /// What bytes are read from.
+///
+/// That the count of faults rises at a `Failed` and nowhere else is asked of each source. So a theorem on every source
+/// speaks of none that tries a failed read again by itself and counts it, nor of one whose faults others count too.
 pub trait Source {
     /// The bytes that are left, where the source tells them.
     ghost left: { Self → Option (List ℕ) };
@@ -50,6 +53,9 @@ pub trait Source {
 }
 
 /// What bytes are written to.
+///
+/// As of a source, it is asked of each sink that its count of faults rises at a `Failed` and nowhere else: a theorem on
+/// every sink speaks of no other.
 pub trait Sink {
     /// The bytes that were written, where the sink tells them.
     ghost written: { Self → Option (List ℕ) };

@@ -85,13 +85,13 @@ fn most_at(cuts: &[usize], piece: usize) -> usize
     }
 }
 
-/// Copies bytes from a place to the front of a buffer: at most `most`, and as many as there are.
+/// Copies bytes from an offset to the front of a buffer: at most `most`, and as many as there are.
 fn give(bytes: &[u8], at: usize, most: usize, buf: &mut [u8]) -> usize
     requires { most ≤ length buf.old }
     ensures bound { result ≤ most }
     ensures front { drop at bytes.now ≡ take result buf.new ++ drop (at + result) bytes.now }
     ensures end { result ≡ 0 → 0 < most → drop (at + result) bytes.now ≡ [] }
-    ensures place { at + result ≤ length bytes.now ⊎ (result ≡ 0) }
+    ensures within { at + result ≤ length bytes.now ⊎ (result ≡ 0) }
 {
     if at >= bytes.len() {
         return 0;

@@ -82,7 +82,8 @@ impl StdSink {
 /// Gathers the front of a piece, and sends out what was gathered where that ends a line.
 fn gather<W: Write + Drop>(stdout: &mut BufWriter<W>, bytes: &[u8]) -> io::Result<usize>
     ensures bound { IfOk result (λ n. n ≤ length bytes.now) }
-    ensures bytes { IfOk result (λ n. Appends (writer_contents W.contents stdout.old) (writer_contents W.contents stdout.new) (take n bytes.now)) }
+    ensures bytes { IfOk result (λ n. Appends (writer_contents W.contents stdout.old) (writer_contents W.contents stdout.new)
+        (take n bytes.now)) }
     ensures sent { IfOk result (λ n. EndsLine (take n bytes.now) → writer_buffer stdout.new ≡ []) }
 {
     let count = stdout.write(bytes)?;

@@ -3,7 +3,8 @@ use Rattle.std.proofs.Common.{◌≡◌, ℕ, ◌<◌, ◌≤◌, inl, inr, List
 use Rattle.vern_grammar.specs.Trees.{Operator, implication, equivalence, disjunction, conjunction, equation, inequation, Expression}
 use Rattle.vern_grammar.specs.Kinds.{Lexeme}
 use Rattle.vern_grammar.specs.Levels.{op_level, left_at_most, bare}
-use Rattle.vern_grammar.specs.Grammar.{Head, operator, tilde, quantifier, level, room, before, Ends, IsOperand, constant, applied, enclosed, governed, EndsBare, here, further, TakesItself}
+use Rattle.vern_grammar.specs.Grammar.{Head, operator, tilde, quantifier, level, room, before, Ends, IsOperand, constant, applied, enclosed}
+use Rattle.vern_grammar.specs.Grammar.{governed, EndsBare, here, further, TakesItself}
 use Rattle.vern_grammar.proofs.Runs.{op_below}
 
 -- a head that the operator can't have on its left leaves room for it
@@ -38,14 +39,16 @@ higher : (op : Operator) (n most : ℕ) → op_level op ≤ most → Ends (befor
 higher op n most h (inl small) = omega arith
 higher op n most h (inr high) = high
 
-not_above : {n : ℕ} {op : Operator} {o : ℕ} {ts : List Lexeme} {a b : ℕ} {t : Expression} → IsOperand n (before op) o ts a b t → TakesItself op → left_at_most op < n → ⊥
+not_above : {n : ℕ} {op : Operator} {o : ℕ} {ts : List Lexeme} {a b : ℕ} {t : Expression} → IsOperand n (before op) o ts a b t
+    → TakesItself op → left_at_most op < n → ⊥
 not_above (constant v c) h l = omega arith
 not_above (applied w) h l = omega arith
 not_above (enclosed c d k e) h l = omega arith
 not_above {op = op} (governed {n = m} {h = k} b f e r) h l = not_above r h (higher op m (room k) (roomy op k h l) e)
 
 -- an operator that takes itself takes what stands before it on its left
-pub taken : (op : Operator) {n o a b : ℕ} {ts : List Lexeme} {t : Expression} → TakesItself op → IsOperand n (before op) o ts a b t → n ≤ left_at_most op
+pub taken : (op : Operator) {n o a b : ℕ} {ts : List Lexeme} {t : Expression} → TakesItself op → IsOperand n (before op) o ts a b t
+    → n ≤ left_at_most op
 taken op h e = let no = not_above e h in omega arith
 
 -- and that doesn't end in a bare quantifier

@@ -1,5 +1,6 @@
 -- One tree, exact faults.
-use Rattle.std.proofs.Common.{◌≡◌, ℕ, ◌+◌, ◌<◌, ◌≤◌, ◌⊎◌, inl, inr, List, [], ◌∷◌, ◌++◌, length, take, drop, min, true, Option, Some, None, refl, sym, ap, subst, ◌∙◌, arith, append_assoc, append-nil, take_all, length-append}
+use Rattle.std.proofs.Common.{◌≡◌, ℕ, ◌+◌, ◌<◌, ◌≤◌, ◌⊎◌, inl, inr, List, [], ◌∷◌, ◌++◌, length, take, drop, min, true, Option, Some, None}
+use Rattle.std.proofs.Common.{refl, sym, ap, subst, ◌∙◌, arith, append_assoc, append-nil, take_all, length-append}
 use Rattle.std.proofs.Math.Seq.{take-append_seam, take-append-add}
 use Rattle.std.proofs.lemmas.List.{take-append-drop, take-append-le, length-take}
 use Rattle.vern_grammar.specs.Trees.{Expression, Shape}
@@ -8,7 +9,8 @@ use Rattle.vern_lex.specs.declared.span.Span.{Span}
 use Rattle.vern_grammar.specs.Kinds.{Kind, Lexeme}
 use Rattle.vern_grammar.specs.Kinds as kind
 use Rattle.vern_grammar.specs.Grammar.{tok, IsExpression, IsShape, IsShapeBehind, IsOperand, last, Begins, IsFault}
-use Rattle.vern_grammar.specs.Machine.{Frame, outline, State, Phrase, an_expression, a_shape, step, next, run, result, ends, start, parsed, whole, close, chain, Fails}
+use Rattle.vern_grammar.specs.Machine.{Frame, outline, State, Phrase, an_expression, a_shape, step, next, run, result, ends, start, parsed}
+use Rattle.vern_grammar.specs.Machine.{whole, close, chain, Fails}
 use Rattle.vern_grammar.proofs.Runs.{run-append, run-None, is_foreign, operand_most, runs, Arrives, chains, Chains}
 use Rattle.vern_grammar.proofs.Sound.{Aim, for_expression, for_shape, ground, Found, expression_found, shape_found, sound}
 use Rattle.vern_grammar.proofs.Finish.{GoesOn, goes_on}
@@ -39,7 +41,8 @@ expression_of ts p (expression_found {n = n} {a = a} {b = b} {t = t} e) = (t, re
 shape_of : (ts : List Lexeme) (p : Phrase) → Found for_shape ts p → (t : Shape) × (p ≡ a_shape t) × IsShape ts t
 shape_of ts p (shape_found {t = t} e) = (t, refl, e)
 
-pub expression_given : (ts : List Lexeme) (p : Phrase) → parsed [] ts ≡ Some p → (t : Expression) × (p ≡ an_expression t) × IsExpression ts t
+pub expression_given : (ts : List Lexeme) (p : Phrase) → parsed [] ts ≡ Some p
+    → (t : Expression) × (p ≡ an_expression t) × IsExpression ts t
 expression_given ts p e = expression_of ts p (sound for_expression ts p e)
 
 pub shape_given : (ts : List Lexeme) (p : Phrase) → parsed (outline ∷ []) ts ≡ Some p → (t : Shape) × (p ≡ a_shape t) × IsShape ts t
@@ -55,7 +58,14 @@ pub record Stands (s : List Frame) (ts : List Lexeme) (p : Phrase) : Type 0 wher
 
 expression_stands_by : (n a b : ℕ) (ts : List Lexeme) (t : Expression) → Arrives [] ts n last a b t → Stands [] ts (an_expression t)
 unfolding whole close
-expression_stands_by n a b ts t r = record { state = r.state; ran = r.ran; finished = r.settles.1; closed = r.settles.0; foreign = r.settles.2 }
+expression_stands_by n a b ts t r = record {
+  state = r.state;
+  ran = r.ran;
+  finished = r.settles.1;
+  closed = r.settles.0;
+  foreign =
+      r.settles.2;
+}
 
 pub expression_stands : (ts : List Lexeme) (t : Expression) → IsExpression ts t → Stands [] ts (an_expression t)
 expression_stands ts t (n, a, b, e) = expression_stands_by n a b ts t (runs e [] refl (inl (operand_most e)))
@@ -113,7 +123,8 @@ shape_fault ts p f = record {
 
 -- ---- a tree or a fault
 
-fails_at : (s : List Frame) (ts us : List Lexeme) (u : Lexeme) (st : State) → run (start s) ts ≡ Some st → step st u ≡ None → Fails s (ts ++ (u ∷ us)) (length ts)
+fails_at : (s : List Frame) (ts us : List Lexeme) (u : Lexeme) (st : State) → run (start s) ts ≡ Some st → step st u ≡ None
+    → Fails s (ts ++ (u ∷ us)) (length ts)
 fails_at s ts us u st e n = record {
   within = omega (arith, length-append ts (u ∷ us));
   state = st;
@@ -134,11 +145,13 @@ fails_last s ts st e n = record {
 abbrev Verdict : List Frame → List Lexeme → Type 0
 Verdict s ts = ((p : Phrase) × (parsed s ts ≡ Some p)) ⊎ ((p : ℕ) × Fails s ts p)
 
-verdict_end : (s : List Frame) (ts : List Lexeme) (st : State) (m : Option Phrase) → run (start s) ts ≡ Some st → ends (Some st) ≡ m → Verdict s ts
+verdict_end : (s : List Frame) (ts : List Lexeme) (st : State) (m : Option Phrase) → run (start s) ts ≡ Some st → ends (Some st) ≡ m
+    → Verdict s ts
 verdict_end s ts st (Some p) e f = inl (p, ap ends e ∙ f)
 verdict_end s ts st None e f = inr (length ts, fails_last s ts st e f)
 
-verdict_step : (s : List Frame) (ts us : List Lexeme) (u : Lexeme) (st : State) (m : Option State) → run (start s) ts ≡ Some st → step st u ≡ m →
+verdict_step : (s : List Frame) (ts us : List Lexeme) (u : Lexeme) (st : State) (m : Option State) → run (start s) ts ≡ Some st
+    → step st u ≡ m →
     ((to : State) → run (start s) (ts ++ (u ∷ [])) ≡ Some to → Verdict s ((ts ++ (u ∷ [])) ++ us)) → Verdict s (ts ++ (u ∷ us))
 verdict_step s ts us u st (Some to) e f g = rw append_assoc at (g to (run-append (start s) ts (u ∷ []) ∙ ap (λ m. next m u) e ∙ f))
 verdict_step s ts us u st None e f g = inr (length ts, fails_at s ts us u st e f)
@@ -167,10 +180,12 @@ shape_or_fault ts = of (verdict_by ts (outline ∷ []) [] _ refl)
 begins_shorter : {A : Type 0} (R : List Lexeme → A → Type 0) (ts us : List Lexeme) → Begins R (ts ++ us) → Begins R ts
 begins_shorter R ts us (ws, t, r) = (us ++ ws, t, rw append_assoc at r)
 
-begins_take : {A : Type 0} (R : List Lexeme → A → Type 0) (ts : List Lexeme) (p q : ℕ) → p ≤ q → q ≤ length ts → Begins R (take q ts) → Begins R (take p ts)
+begins_take : {A : Type 0} (R : List Lexeme → A → Type 0) (ts : List Lexeme) (p q : ℕ) → p ≤ q → q ≤ length ts → Begins R (take q ts)
+    → Begins R (take p ts)
 begins_take R ts p q h l b =
     let e : take q ts ≡ take p ts ++ drop p (take q ts) =
-    sym (take-append-drop p (take q ts)) ∙ ap (λ x. x ++ drop p (take q ts)) (sym (take-append-le p (take q ts) (drop q ts) (omega (arith, length-take q ts))) ∙ ap (take p) (take-append-drop q ts)) in
+    sym (take-append-drop p (take q ts)) ∙ ap (λ x. x ++ drop p (take q ts))
+    (sym (take-append-le p (take q ts) (drop q ts) (omega (arith, length-take q ts))) ∙ ap (take p) (take-append-drop q ts)) in
     begins_shorter R (take p ts) (drop p (take q ts)) (rw e at b)
 
 pub not_both : {A : Type 0} (R : List Lexeme → A → Type 0) (ts : List Lexeme) (p : ℕ) (t : A) → IsFault R ts p → R ts t → ⊥

@@ -4,7 +4,9 @@ use Rattle.vern_lex.specs.declared.span.Span.{Span}
 use Rattle.vern_grammar.specs.Trees.{Name, Group, Expression}
 use Rattle.vern_grammar.specs.Kinds.{Lexeme}
 use Rattle.vern_grammar.specs.Kinds as kind
-use Rattle.vern_grammar.specs.Grammar.{tok, Head, operator, tilde, quantifier, begin, governing, span, Next, IsOperand, constant, applied, enclosed, governed, IsApplication, alone, to_name, to_expression, IsHead, left, negating, names, groups, first_byte, last_end, span_of, IsEnclosed}
+use Rattle.vern_grammar.specs.Grammar.{tok, Head, operator, tilde, quantifier, begin, governing, span, Next, IsOperand, constant, applied}
+use Rattle.vern_grammar.specs.Grammar.{enclosed, governed, IsApplication, alone, to_name, to_expression, IsHead, left, negating, names}
+use Rattle.vern_grammar.specs.Grammar.{groups, first_byte, last_end, span_of, IsEnclosed}
 
 -- ---- the first byte
 
@@ -25,22 +27,26 @@ mutual
   application_long : {o : ℕ} {ts : List Lexeme} {x : Name} {ys : List Expression} {to : ℕ} → IsApplication o ts x ys to → 0 < length ts
   application_long (alone x c) = omega arith
   application_long (to_name {ts = ts} y c p) = long_append ts (tok (kind.name y) c ∷ []) (application_long p)
-  application_long (to_expression {ts = ts} {us = us} c d p l e) = long_append ts ((tok kind.opening c ∷ us) ++ (tok kind.closing d ∷ [])) (application_long p)
+  application_long (to_expression {ts = ts} {us = us} c d p l e) =
+      long_append ts ((tok kind.opening c ∷ us) ++ (tok kind.closing d ∷ [])) (application_long p)
 
   head_long : {h : Head} {o : ℕ} {ts : List Lexeme} → IsHead h o ts → 0 < length ts
   head_long (left {ts = ts} {op = op} c e m l) = long_append ts (tok (kind.sign op) c ∷ []) (operand_long e)
   head_long (negating c l) = omega arith
-  head_long (names {ts = ts} q a b c d sort ns p) = long_append (tok (kind.quantifier q) a ∷ ts) (tok kind.colon b ∷ tok (kind.name sort) c ∷ tok kind.comma d ∷ []) (omega arith)
+  head_long (names {ts = ts} q a b c d sort ns p) =
+      long_append (tok (kind.quantifier q) a ∷ ts) (tok kind.colon b ∷ tok (kind.name sort) c ∷ tok kind.comma d ∷ []) (omega arith)
   head_long (groups {ts = ts} q a d gs) = long_append (tok (kind.quantifier q) a ∷ ts) (tok kind.comma d ∷ []) (omega arith)
 
 mutual
-  pub operand_first : {n : ℕ} {g : Next} {o : ℕ} {ts : List Lexeme} {a b : ℕ} {t : Expression} → IsOperand n g o ts a b t → first_byte ts ≡ a
+  pub operand_first : {n : ℕ} {g : Next} {o : ℕ} {ts : List Lexeme} {a b : ℕ} {t : Expression} → IsOperand n g o ts a b t
+      → first_byte ts ≡ a
   operand_first (constant v c) = refl
   operand_first (applied p) = application_first p
   operand_first (enclosed c d l e) = refl
   operand_first (governed {ts = ts} {us = us} p f e r) = some_first ts us (head_long p) ∙ head_first p
 
-  application_first : {o : ℕ} {ts : List Lexeme} {x : Name} {ys : List Expression} {to : ℕ} → IsApplication o ts x ys to → first_byte ts ≡ x.span.from
+  application_first : {o : ℕ} {ts : List Lexeme} {x : Name} {ys : List Expression} {to : ℕ} → IsApplication o ts x ys to
+      → first_byte ts ≡ x.span.from
   application_first (alone x c) = refl
   application_first (to_name {ts = ts} y c p) = some_first ts _ (application_long p) ∙ application_first p
   application_first (to_expression {ts = ts} c d p l e) = some_first ts _ (application_long p) ∙ application_first p
@@ -63,7 +69,8 @@ application_last : {o : ℕ} {ts : List Lexeme} {x : Name} {ys : List Expression
 application_last (alone x c) = refl
 application_last (to_name {ts = ts} y c p) = some_last ts (tok (kind.name y) c ∷ []) (omega arith)
 application_last (to_expression {ts = ts} {us = us} c d p l e) =
-    some_last ts ((tok kind.opening c ∷ us) ++ (tok kind.closing d ∷ [])) (long_append (tok kind.opening c ∷ us) (tok kind.closing d ∷ []) (omega arith))
+    some_last ts ((tok kind.opening c ∷ us) ++ (tok kind.closing d ∷ []))
+    (long_append (tok kind.opening c ∷ us) (tok kind.closing d ∷ []) (omega arith))
     ∙ some_last (tok kind.opening c ∷ us) (tok kind.closing d ∷ []) (omega arith)
 
 pub operand_last : {n : ℕ} {g : Next} {o : ℕ} {ts : List Lexeme} {a b : ℕ} {t : Expression} → IsOperand n g o ts a b t → last_end ts ≡ b
@@ -79,7 +86,8 @@ governing_span (operator op a f) t to = refl
 governing_span (tilde f) t to = refl
 governing_span (quantifier b) t to = refl
 
-pub operand_span : {n : ℕ} {g : Next} {o : ℕ} {ts : List Lexeme} {a b : ℕ} {t : Expression} → IsOperand n g o ts a b t → (span_of t ≡ span a b) ⊎ IsEnclosed o ts t
+pub operand_span : {n : ℕ} {g : Next} {o : ℕ} {ts : List Lexeme} {a b : ℕ} {t : Expression} → IsOperand n g o ts a b t
+    → (span_of t ≡ span a b) ⊎ IsEnclosed o ts t
 operand_span (constant v c) = inl refl
 operand_span (applied p) = inl refl
 operand_span (enclosed {n = n} {from = a} {to = b} {ts = ts} c d l e) = inr (ts, c, d, n, a, b, refl, e)

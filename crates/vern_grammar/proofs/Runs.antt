@@ -1,14 +1,20 @@
 -- The machine reads what the grammar gives.
-use Rattle.std.proofs.Common.{◌≡◌, ℕ, ◌+◌, ◌<◌, ◌≤◌, Bool, true, false, cond, ◌&&◌, nat_lt, nat_le, ◌⊎◌, inl, inr, List, [], ◌∷◌, ◌++◌, length, Option, Some, None, refl, sym, ap, ◌∙◌, arith, le-leb, lt-ltb, add_assoc, add-zero, zero-add}
+use Rattle.std.proofs.Common.{◌≡◌, ℕ, ◌+◌, ◌<◌, ◌≤◌, Bool, true, false, cond, ◌&&◌, nat_lt, nat_le, ◌⊎◌, inl, inr, List, [], ◌∷◌, ◌++◌}
+use Rattle.std.proofs.Common.{length, Option, Some, None, refl, sym, ap, ◌∙◌, arith, le-leb, lt-ltb, add_assoc, add-zero, zero-add}
 use Rattle.std.proofs.lemmas.Bool.{lt-leb}
 use Rattle.vern_lex.specs.declared.span.Span.{Span}
-use Rattle.vern_grammar.specs.Trees.{Operator, implication, equivalence, disjunction, conjunction, equation, inequation, Name, Group, Expression, Shape}
+use Rattle.vern_grammar.specs.Trees.{Operator, implication, equivalence, disjunction, conjunction, equation, inequation, Name, Group}
+use Rattle.vern_grammar.specs.Trees.{Expression, Shape}
 use Rattle.vern_grammar.specs.Trees as made
 use Rattle.vern_grammar.specs.Kinds.{Kind, Lexeme}
 use Rattle.vern_grammar.specs.Kinds as kind
 use Rattle.vern_grammar.specs.Levels.{op_level, left_at_most, right_at_most, tilde_level, bare, outer, limit}
-use Rattle.vern_grammar.specs.Grammar.{tok, named, group, application, Binder, binder, Head, operator, tilde, quantifier, level, room, openings, begin, governing, Next, last, before, Fits, Ends, IsNames, none, more, IsGroup, grouped, IsGroups, one, then, IsOperand, constant, applied, enclosed, governed, IsApplication, alone, to_name, to_expression, IsHead, left, negating, names, groups, IsShapeBehind, set, prop, arrow, plain}
-use Rattle.vern_grammar.specs.Machine.{Frame, parenthesis, argument, governor, outline, link, State, at, depth, top, in_shape, within, shift, place, close, Phrase, an_expression, chain, whole, step, next, run, ends, start, parsed}
+use Rattle.vern_grammar.specs.Grammar.{tok, named, group, application, Binder, binder, Head, operator, tilde, quantifier, level, room}
+use Rattle.vern_grammar.specs.Grammar.{openings, begin, governing, Next, last, before, Fits, Ends, IsNames, none, more, IsGroup, grouped}
+use Rattle.vern_grammar.specs.Grammar.{IsGroups, one, then, IsOperand, constant, applied, enclosed, governed, IsApplication, alone, to_name}
+use Rattle.vern_grammar.specs.Grammar.{to_expression, IsHead, left, negating, names, groups, IsShapeBehind, set, prop, arrow, plain}
+use Rattle.vern_grammar.specs.Machine.{Frame, parenthesis, argument, governor, outline, link, State, at, depth, top, in_shape, within}
+use Rattle.vern_grammar.specs.Machine.{shift, place, close, Phrase, an_expression, chain, whole, step, next, run, ends, start, parsed}
 use Rattle.vern_grammar.specs.Machine as mode
 
 pub run-append : (m : Option State) (ts us : List Lexeme) → run m (ts ++ us) ≡ run (run m ts) us
@@ -28,7 +34,8 @@ is_foreign kind.prop = true
 is_foreign (kind.other k) = true
 is_foreign _ = false
 
-after_foreign : (t : Expression) (a b : ℕ) (s : List Frame) (k : Kind) (c : Span) → is_foreign k ≡ true → step (at (mode.after t a b) s) (tok k c) ≡ None
+after_foreign : (t : Expression) (a b : ℕ) (s : List Frame) (k : Kind) (c : Span) → is_foreign k ≡ true
+    → step (at (mode.after t a b) s) (tok k c) ≡ None
 after_foreign t a b s kind.colon c h = refl
 after_foreign t a b s kind.comma c h = refl
 after_foreign t a b s kind.set c h = refl
@@ -36,7 +43,8 @@ after_foreign t a b s kind.prop c h = refl
 after_foreign t a b s (kind.other k) c h = refl
 after_foreign t a b s _ c h = cc
 
-applying_foreign : (x : Name) (ys : List Expression) (b : ℕ) (s : List Frame) (k : Kind) (c : Span) → is_foreign k ≡ true → step (at (mode.applying x ys b) s) (tok k c) ≡ None
+applying_foreign : (x : Name) (ys : List Expression) (b : ℕ) (s : List Frame) (k : Kind) (c : Span) → is_foreign k ≡ true
+    → step (at (mode.applying x ys b) s) (tok k c) ≡ None
 applying_foreign x ys b s kind.colon c h = refl
 applying_foreign x ys b s kind.comma c h = refl
 applying_foreign x ys b s kind.set c h = refl
@@ -46,7 +54,8 @@ applying_foreign x ys b s _ c h = cc
 
 -- What comes behind the tokens of an operand finds it where they stood.
 abbrev pub Settles : Next → ℕ → Expression → ℕ → ℕ → List Frame → State → Type 0
-Settles last n v a b s st = ((c : Span) → step st (tok kind.closing c) ≡ close v b c.to s) × (ends (Some st) ≡ whole v b s) × ((k : Kind) (c : Span) → is_foreign k ≡ true → step st (tok k c) ≡ None)
+Settles last n v a b s st = ((c : Span) → step st (tok kind.closing c) ≡ close v b c.to s) × (ends (Some st) ≡ whole v b s)
+    × ((k : Kind) (c : Span) → is_foreign k ≡ true → step st (tok k c) ≡ None)
 Settles (before op) n v a b s st = (c : Span) → step st (tok (kind.sign op) c) ≡ place op (nat_le n (left_at_most op)) v a b s
 
 pub record Arrives (s : List Frame) (ts : List Lexeme) (n : ℕ) (g : Next) (a b : ℕ) (t : Expression) : Type 0 where
@@ -73,12 +82,17 @@ op_below inequation = omega arith
 pub within_yes : (n : ℕ) (st : State) → n < limit → within n st ≡ Some st
 within_yes n st h = let e : nat_lt n limit ≡ true = lt-ltb n limit h in ap (λ b. cond b (Some st) None) e
 
-shift_yes : (op : Operator) (v : Expression) (a : ℕ) (s : List Frame) → op_level op ≤ top s → depth s < limit → shift op true v a s ≡ Some (at mode.want (governor (operator op v a) ∷ s))
-shift_yes op v a s h d = ap (λ y. within (depth s) (at mode.want (cond y (governor (operator op v a)) (link v) ∷ s))) (le-leb (op_level op) (top s) h) ∙ within_yes (depth s) _ d
+shift_yes : (op : Operator) (v : Expression) (a : ℕ) (s : List Frame) → op_level op ≤ top s → depth s < limit
+    → shift op true v a s ≡ Some (at mode.want (governor (operator op v a) ∷ s))
+shift_yes op v a s h d = ap (λ y. within (depth s) (at mode.want (cond y (governor (operator op v a)) (link v) ∷ s)))
+    (le-leb (op_level op) (top s) h) ∙ within_yes (depth s) _ d
 
-place_yes : (op : Operator) (v : Expression) (a b : ℕ) (s : List Frame) → op_level op ≤ top s → depth s < limit → place op true v a b s ≡ Some (at mode.want (governor (operator op v a) ∷ s))
+place_yes : (op : Operator) (v : Expression) (a b : ℕ) (s : List Frame) → op_level op ≤ top s → depth s < limit
+    → place op true v a b s ≡ Some (at mode.want (governor (operator op v a) ∷ s))
 unfolding place
-place_yes op v a b (governor k ∷ s) h d = ap (λ t. cond t (shift op true v a (governor k ∷ s)) (place op (nat_le (level k) (left_at_most op)) (governing k v b) (begin k) b s)) (le-leb (op_level op) (room k) h) ∙ shift_yes op v a (governor k ∷ s) h d
+place_yes op v a b (governor k ∷ s) h d = ap (λ t. cond t (shift op true v a (governor k ∷ s))
+    (place op (nat_le (level k) (left_at_most op)) (governing k v b) (begin k) b s)) (le-leb (op_level op) (room k) h)
+    ∙ shift_yes op v a (governor k ∷ s) h d
 place_yes op v a b [] h d = shift_yes op v a [] h d
 place_yes op v a b (parenthesis f ∷ s) h d = shift_yes op v a (parenthesis f ∷ s) h d
 place_yes op v a b (argument x ys ∷ s) h d = shift_yes op v a (argument x ys ∷ s) h d
@@ -86,7 +100,8 @@ place_yes op v a b (outline ∷ s) h d = shift_yes op v a (outline ∷ s) h d
 place_yes op v a b (link w ∷ s) h d = shift_yes op v a (link w ∷ s) h d
 
 -- where a shape begins, an arrow goes to the next part of it
-place_link : (v : Expression) (a b : ℕ) (s : List Frame) → in_shape s ≡ true → depth s < limit → place implication true v a b s ≡ Some (at mode.want (link v ∷ s))
+place_link : (v : Expression) (a b : ℕ) (s : List Frame) → in_shape s ≡ true → depth s < limit
+    → place implication true v a b s ≡ Some (at mode.want (link v ∷ s))
 unfolding place
 place_link v a b (outline ∷ s) h d = within_yes (depth (outline ∷ s)) _ d
 place_link v a b (link w ∷ s) h d = within_yes (depth (link w ∷ s)) _ d
@@ -100,24 +115,28 @@ cond_no true true x y (inr e) = cc
 
 -- the head takes what ends before the next operator
 reduces : (op : Operator) (n : ℕ) (h : Head) (t : Expression) (a b : ℕ) (s : List Frame) → Ends (before op) n (room h) →
-    place op (nat_le n (left_at_most op)) t a b (governor h ∷ s) ≡ place op (nat_le (level h) (left_at_most op)) (governing h t b) (begin h) b s
+    place op (nat_le n (left_at_most op)) t a b (governor h ∷ s)
+    ≡ place op (nat_le (level h) (left_at_most op)) (governing h t b) (begin h) b s
 unfolding place
 reduces op n h t a b s (inl small) = cond_no _ _ _ _ (inr (lt-leb (op_level op) (room h) small))
 reduces op n h t a b s (inr high) = cond_no _ _ _ _ (inl (lt-leb n (left_at_most op) high))
 
-settles_head : (g : Next) (n : ℕ) (h : Head) (t : Expression) (a b : ℕ) (s : List Frame) (st : State) → Ends g n (room h) → Settles g n t a b (governor h ∷ s) st → Settles g (level h) (governing h t b) (begin h) b s st
+settles_head : (g : Next) (n : ℕ) (h : Head) (t : Expression) (a b : ℕ) (s : List Frame) (st : State) → Ends g n (room h)
+    → Settles g n t a b (governor h ∷ s) st → Settles g (level h) (governing h t b) (begin h) b s st
 unfolding close whole
 settles_head last n h t a b s st e p = p
 settles_head (before op) n h t a b s st e p = λ c. p c ∙ reduces op n h t a b s e
 
-fits_zero : (op : Operator) (t : Expression) (a b : ℕ) (s : List Frame) → place op true t a b s ≡ place op (nat_le 0 (left_at_most op)) t a b s
+fits_zero : (op : Operator) (t : Expression) (a b : ℕ) (s : List Frame)
+    → place op true t a b s ≡ place op (nat_le 0 (left_at_most op)) t a b s
 fits_zero op t a b s = ap (λ y. place op y t a b s) (sym (le-leb 0 (left_at_most op) (omega arith)))
 
 pub settles_after : (g : Next) (t : Expression) (a b : ℕ) (s : List Frame) → Settles g 0 t a b s (at (mode.after t a b) s)
 settles_after last t a b s = (λ c. refl, refl, after_foreign t a b s)
 settles_after (before op) t a b s = λ c. fits_zero op t a b s
 
-pub settles_applying : (g : Next) (x : Name) (ys : List Expression) (b : ℕ) (s : List Frame) → Settles g 0 (application x ys b) x.span.from b s (at (mode.applying x ys b) s)
+pub settles_applying : (g : Next) (x : Name) (ys : List Expression) (b : ℕ) (s : List Frame)
+    → Settles g 0 (application x ys b) x.span.from b s (at (mode.applying x ys b) s)
 settles_applying last x ys b s = (λ c. refl, refl, applying_foreign x ys b s)
 settles_applying (before op) x ys b s = λ c. fits_zero op (application x ys b) x.span.from b s
 
@@ -153,37 +172,50 @@ runs_names : {o k : ℕ} {ts : List Lexeme} {xs : List Name} → IsNames o k ts 
     run (Some (at (mode.in_names (binder q f [] 0) []) s)) ts ≡ Some (at (mode.in_names (binder q f [] k) xs) s)
 runs_names none q f s d = refl
 runs_names (more {k = k} {ts = ts} {xs = xs} x c r l) q f s d =
-    run-append _ ts (tok (kind.name x) c ∷ []) ∙ ap (λ m. next m (tok (kind.name x) c)) (runs_names r q f s d) ∙ within_yes (depth s + k) _ (rw d l)
+    run-append _ ts (tok (kind.name x) c ∷ []) ∙ ap (λ m. next m (tok (kind.name x) c)) (runs_names r q f s d)
+    ∙ within_yes (depth s + k) _ (rw d l)
 
-runs_group_names : {o k : ℕ} {ts : List Lexeme} {xs : List Name} → IsNames o k ts xs → (q : Bool) (f : ℕ) (gs : List Group) (m : ℕ) (s : List Frame) → depth s + m + 1 ≡ o →
+runs_group_names : {o k : ℕ} {ts : List Lexeme} {xs : List Name} → IsNames o k ts xs
+    → (q : Bool) (f : ℕ) (gs : List Group) (m : ℕ) (s : List Frame) → depth s + m + 1 ≡ o →
     run (Some (at (mode.in_group (binder q f gs m) []) s)) ts ≡ Some (at (mode.in_group (binder q f gs (m + k)) xs) s)
 runs_group_names none q f gs m s d = ap (λ j. Some (at (mode.in_group (binder q f gs j) []) s)) (sym (add-zero m))
 runs_group_names (more {k = k} {ts = ts} {xs = xs} x c r l) q f gs m s d =
-    run-append _ ts (tok (kind.name x) c ∷ []) ∙ ap (λ w. next w (tok (kind.name x) c)) (runs_group_names r q f gs m s d) ∙ within_yes (depth s + (m + k) + 1) _ (omega arith)
+    run-append _ ts (tok (kind.name x) c ∷ []) ∙ ap (λ w. next w (tok (kind.name x) c)) (runs_group_names r q f gs m s d)
+    ∙ within_yes (depth s + (m + k) + 1) _ (omega arith)
     ∙ ap (λ j. Some (at (mode.in_group (binder q f gs j) (xs ++ (named x c ∷ []))) s)) (add_assoc m k 1)
 
-runs_group_sort : (q : Bool) (f : ℕ) (gs : List Group) (m : ℕ) (xs : List Name) (s : List Frame) (b c d : Span) (sort : List ℕ) → 0 < length xs →
-    run (Some (at (mode.in_group (binder q f gs m) xs) s)) (tok kind.colon b ∷ tok (kind.name sort) c ∷ tok kind.closing d ∷ []) ≡ Some (at (mode.in_groups (binder q f (gs ++ (group xs (named sort c) ∷ [])) m)) s)
-runs_group_sort q f gs m xs s b c d sort h = ap (λ y. run (cond y (Some (at (mode.group_sort (binder q f gs m) xs) s)) None) (tok (kind.name sort) c ∷ tok kind.closing d ∷ [])) (lt-ltb 0 (length xs) h)
+runs_group_sort : (q : Bool) (f : ℕ) (gs : List Group) (m : ℕ) (xs : List Name) (s : List Frame) (b c d : Span) (sort : List ℕ)
+    → 0 < length xs →
+    run (Some (at (mode.in_group (binder q f gs m) xs) s)) (tok kind.colon b ∷ tok (kind.name sort) c ∷ tok kind.closing d ∷ [])
+    ≡ Some (at (mode.in_groups (binder q f (gs ++ (group xs (named sort c) ∷ [])) m)) s)
+runs_group_sort q f gs m xs s b c d sort h = ap (λ y. run (cond y (Some (at (mode.group_sort (binder q f gs m) xs) s)) None)
+    (tok (kind.name sort) c ∷ tok kind.closing d ∷ [])) (lt-ltb 0 (length xs) h)
 
 runs_names_sort : (q : Bool) (f : ℕ) (m : ℕ) (xs : List Name) (s : List Frame) (b c d : Span) (sort : List ℕ) → 0 < length xs →
-    run (Some (at (mode.in_names (binder q f [] m) xs) s)) (tok kind.colon b ∷ tok (kind.name sort) c ∷ tok kind.comma d ∷ []) ≡ start (governor (quantifier (binder q f (group xs (named sort c) ∷ []) m)) ∷ s)
-runs_names_sort q f m xs s b c d sort h = ap (λ y. run (cond y (Some (at (mode.names_sort (binder q f [] m) xs) s)) None) (tok (kind.name sort) c ∷ tok kind.comma d ∷ [])) (lt-ltb 0 (length xs) h)
+    run (Some (at (mode.in_names (binder q f [] m) xs) s)) (tok kind.colon b ∷ tok (kind.name sort) c ∷ tok kind.comma d ∷ [])
+    ≡ start (governor (quantifier (binder q f (group xs (named sort c) ∷ []) m)) ∷ s)
+runs_names_sort q f m xs s b c d sort h = ap (λ y. run (cond y (Some (at (mode.names_sort (binder q f [] m) xs) s)) None)
+    (tok (kind.name sort) c ∷ tok kind.comma d ∷ [])) (lt-ltb 0 (length xs) h)
 
-runs_group : {o k : ℕ} {ts : List Lexeme} {g : Group} → IsGroup o k ts g → (q : Bool) (f : ℕ) (gs : List Group) (m : ℕ) (s : List Frame) (st : State) → depth s + m ≡ o →
+runs_group : {o k : ℕ} {ts : List Lexeme} {g : Group} → IsGroup o k ts g
+    → (q : Bool) (f : ℕ) (gs : List Group) (m : ℕ) (s : List Frame) (st : State) → depth s + m ≡ o →
     ((c : Span) → step st (tok kind.opening c) ≡ within (depth s + m + 1) (at (mode.in_group (binder q f gs m) []) s)) →
     run (Some st) ts ≡ Some (at (mode.in_groups (binder q f (gs ++ (g ∷ [])) (m + k))) s)
 runs_group (grouped {k = k} {ts = ts} {xs = xs} a b c d sort ns p) q f gs m s st e i =
     let low = names_below ns p in
-    ap (λ w. run w (ts ++ (tok kind.colon b ∷ tok (kind.name sort) c ∷ tok kind.closing d ∷ []))) (i a ∙ within_yes (depth s + m + 1) _ (omega arith))
-    ∙ run-append _ ts _ ∙ ap (λ w. run w (tok kind.colon b ∷ tok (kind.name sort) c ∷ tok kind.closing d ∷ [])) (runs_group_names ns q f gs m s (ap (λ w. w + 1) e))
+    ap (λ w. run w (ts ++ (tok kind.colon b ∷ tok (kind.name sort) c ∷ tok kind.closing d ∷ []))) (i a
+    ∙ within_yes (depth s + m + 1) _ (omega arith))
+    ∙ run-append _ ts _ ∙ ap (λ w. run w (tok kind.colon b ∷ tok (kind.name sort) c ∷ tok kind.closing d ∷ []))
+    (runs_group_names ns q f gs m s (ap (λ w. w + 1) e))
     ∙ runs_group_sort q f gs (m + k) xs s b c d sort p
 
 runs_groups : {o k : ℕ} {ts : List Lexeme} {gs : List Group} → IsGroups o k ts gs → (q : Bool) (f : ℕ) (s : List Frame) → depth s ≡ o →
     run (Some (at (mode.in_names (binder q f [] 0) []) s)) ts ≡ Some (at (mode.in_groups (binder q f gs k)) s)
-runs_groups (one {k = k} {g = g} r) q f s d = runs_group r q f [] 0 s (at (mode.in_names (binder q f [] 0) []) s) (add-zero (depth s) ∙ d) (λ c. refl) ∙ ap (λ j. Some (at (mode.in_groups (binder q f (g ∷ []) j)) s)) (zero-add k)
+runs_groups (one {k = k} {g = g} r) q f s d = runs_group r q f [] 0 s (at (mode.in_names (binder q f [] 0) []) s) (add-zero (depth s)
+    ∙ d) (λ c. refl) ∙ ap (λ j. Some (at (mode.in_groups (binder q f (g ∷ []) j)) s)) (zero-add k)
 runs_groups (then {k = k} {ts = ts} {us = us} {gs = gs} rs r) q f s d =
-    run-append _ ts us ∙ ap (λ w. run w us) (runs_groups rs q f s d) ∙ runs_group r q f gs k s (at (mode.in_groups (binder q f gs k)) s) (ap (λ w. w + k) d) (λ c. refl)
+    run-append _ ts us ∙ ap (λ w. run w us) (runs_groups rs q f s d)
+    ∙ runs_group r q f gs k s (at (mode.in_groups (binder q f gs k)) s) (ap (λ w. w + k) d) (λ c. refl)
 
 groups_below : {o k : ℕ} {ts : List Lexeme} {gs : List Group} → IsGroups o k ts gs → o < limit
 groups_below (one (grouped a b c d sort ns p)) = let h = names_below ns p in omega arith
@@ -191,51 +223,78 @@ groups_below (then rs r) = groups_below rs
 
 -- ---- expressions
 
-runs_enclosed : (g : Next) (n a b : ℕ) (ts : List Lexeme) (t : Expression) (s : List Frame) (c d : Span) → depth s < limit → Arrives (parenthesis c.from ∷ s) ts n last a b t → Arrives s ((tok kind.opening c ∷ ts) ++ (tok kind.closing d ∷ [])) 0 g c.from d.to t
+runs_enclosed : (g : Next) (n a b : ℕ) (ts : List Lexeme) (t : Expression) (s : List Frame) (c d : Span) → depth s < limit
+    → Arrives (parenthesis c.from ∷ s) ts n last a b t
+    → Arrives s ((tok kind.opening c ∷ ts) ++ (tok kind.closing d ∷ [])) 0 g c.from d.to t
 unfolding close
 runs_enclosed g n a b ts t s c d l r = record {
   state = at (mode.after t c.from d.to) s;
-  ran = ap (λ m. run m (ts ++ (tok kind.closing d ∷ []))) (within_yes (depth s) _ l) ∙ run-append _ ts _ ∙ ap (λ m. next m (tok kind.closing d)) r.ran ∙ r.settles.0 d;
+  ran = ap (λ m. run m (ts ++ (tok kind.closing d ∷ []))) (within_yes (depth s) _ l) ∙ run-append _ ts _
+      ∙ ap (λ m. next m (tok kind.closing d)) r.ran ∙ r.settles.0 d;
   settles = settles_after g t c.from d.to s;
 }
 
-runs_governed : (g : Next) (n a b : ℕ) (h : Head) (ts us : List Lexeme) (t : Expression) (s : List Frame) → Ends g n (room h) → run (start s) ts ≡ start (governor h ∷ s) → Arrives (governor h ∷ s) us n g a b t → Arrives s (ts ++ us) (level h) g (begin h) b (governing h t b)
+runs_governed : (g : Next) (n a b : ℕ) (h : Head) (ts us : List Lexeme) (t : Expression) (s : List Frame) → Ends g n (room h)
+    → run (start s) ts ≡ start (governor h ∷ s) → Arrives (governor h ∷ s) us n g a b t
+    → Arrives s (ts ++ us) (level h) g (begin h) b (governing h t b)
 runs_governed g n a b h ts us t s e p r = record {
   state = r.state;
   ran = run-append _ ts us ∙ ap (λ m. run m us) p ∙ r.ran;
   settles = settles_head g n h t a b s r.state e r.settles;
 }
 
-runs_left : (n : ℕ) (op : Operator) (a b : ℕ) (ts : List Lexeme) (t : Expression) (s : List Frame) (c : Span) → n ≤ left_at_most op → op_level op ≤ top s → depth s < limit → Arrives s ts n (before op) a b t → run (start s) (ts ++ (tok (kind.sign op) c ∷ [])) ≡ start (governor (operator op t a) ∷ s)
-runs_left n op a b ts t s c m h l r = run-append _ ts _ ∙ ap (λ w. next w (tok (kind.sign op) c)) r.ran ∙ r.settles c ∙ ap (λ y. place op y t a b s) (le-leb n (left_at_most op) m) ∙ place_yes op t a b s h l
+runs_left : (n : ℕ) (op : Operator) (a b : ℕ) (ts : List Lexeme) (t : Expression) (s : List Frame) (c : Span) → n ≤ left_at_most op
+    → op_level op ≤ top s → depth s < limit → Arrives s ts n (before op) a b t
+    → run (start s) (ts ++ (tok (kind.sign op) c ∷ [])) ≡ start (governor (operator op t a) ∷ s)
+runs_left n op a b ts t s c m h l r = run-append _ ts _ ∙ ap (λ w. next w (tok (kind.sign op) c)) r.ran ∙ r.settles c
+    ∙ ap (λ y. place op y t a b s) (le-leb n (left_at_most op) m) ∙ place_yes op t a b s h l
 
-runs_argument : (n o to a b : ℕ) (ts us : List Lexeme) (x : Name) (ys : List Expression) (t : Expression) (s : List Frame) (c d : Span) → depth s < limit → run (start s) ts ≡ Some (at (mode.applying x ys to) s) → Arrives (argument x ys ∷ s) us n last a b t → run (start s) (ts ++ ((tok kind.opening c ∷ us) ++ (tok kind.closing d ∷ []))) ≡ Some (at (mode.applying x (ys ++ (t ∷ [])) d.to) s)
+runs_argument : (n o to a b : ℕ) (ts us : List Lexeme) (x : Name) (ys : List Expression) (t : Expression) (s : List Frame) (c d : Span)
+    → depth s < limit → run (start s) ts ≡ Some (at (mode.applying x ys to) s) → Arrives (argument x ys ∷ s) us n last a b t
+    → run (start s) (ts ++ ((tok kind.opening c ∷ us) ++ (tok kind.closing d ∷ []))) ≡ Some (at (mode.applying x (ys ++ (t ∷ [])) d.to) s)
 unfolding close
 runs_argument n o to a b ts us x ys t s c d l p r =
     run-append _ ts _ ∙ ap (λ m. run m ((tok kind.opening c ∷ us) ++ (tok kind.closing d ∷ []))) p
-    ∙ ap (λ m. run m (us ++ (tok kind.closing d ∷ []))) (within_yes (depth s) _ l) ∙ run-append _ us _ ∙ ap (λ m. next m (tok kind.closing d)) r.ran ∙ r.settles.0 d
+    ∙ ap (λ m. run m (us ++ (tok kind.closing d ∷ []))) (within_yes (depth s) _ l) ∙ run-append _ us _
+    ∙ ap (λ m. next m (tok kind.closing d)) r.ran ∙ r.settles.0 d
 
 mutual
-  pub runs : {n : ℕ} {g : Next} {o : ℕ} {ts : List Lexeme} {a b : ℕ} {t : Expression} → IsOperand n g o ts a b t → (s : List Frame) → depth s ≡ o → Fits n (top s) → Arrives s ts n g a b t
-  runs (constant {g = g} v c) s d f = record { state = at (mode.after (made.constant v c) c.from c.to) s; ran = refl; settles = settles_after g (made.constant v c) c.from c.to s }
-  runs (applied {g = g} {to = to} {x = x} {ys = ys} p) s d f = record { state = at (mode.applying x ys to) s; ran = runs_application p s d; settles = settles_applying g x ys to s }
-  runs (enclosed {g = g} {n = n} {from = a} {to = b} {ts = ts} {t = t} c d l e) s h f = runs_enclosed g n a b ts t s c d (rw h l) (runs e (parenthesis c.from ∷ s) (ap (λ k. k + 1) h) (inl (operand_most e)))
+  pub runs : {n : ℕ} {g : Next} {o : ℕ} {ts : List Lexeme} {a b : ℕ} {t : Expression} → IsOperand n g o ts a b t → (s : List Frame)
+      → depth s ≡ o → Fits n (top s) → Arrives s ts n g a b t
+  runs (constant {g = g} v c) s d f = record {
+    state = at (mode.after (made.constant v c) c.from c.to) s;
+    ran = refl;
+    settles =
+        settles_after g (made.constant v c) c.from c.to s;
+  }
+  runs (applied {g = g} {to = to} {x = x} {ys = ys} p) s d f =
+      record { state = at (mode.applying x ys to) s; ran = runs_application p s d; settles = settles_applying g x ys to s }
+  runs (enclosed {g = g} {n = n} {from = a} {to = b} {ts = ts} {t = t} c d l e) s h f =
+      runs_enclosed g n a b ts t s c d (rw h l) (runs e (parenthesis c.from ∷ s) (ap (λ k. k + 1) h) (inl (operand_most e)))
   runs (governed {g = g} {n = n} {from = a} {to = b} {ts = ts} {us = us} {h = h} {t = t} p f' e r) s d f =
       runs_governed g n a b h ts us t s e (runs_head p s d f) (runs r (governor h ∷ s) (ap (λ k. k + openings h) d) f')
 
-  pub runs_application : {o : ℕ} {ts : List Lexeme} {x : Name} {ys : List Expression} {to : ℕ} → IsApplication o ts x ys to → (s : List Frame) → depth s ≡ o → run (start s) ts ≡ Some (at (mode.applying x ys to) s)
+  pub runs_application : {o : ℕ} {ts : List Lexeme} {x : Name} {ys : List Expression} {to : ℕ} → IsApplication o ts x ys to
+      → (s : List Frame) → depth s ≡ o → run (start s) ts ≡ Some (at (mode.applying x ys to) s)
   runs_application (alone x c) s d = refl
   runs_application (to_name {ts = ts} y c p) s d = run-append _ ts _ ∙ ap (λ m. next m (tok (kind.name y) c)) (runs_application p s d)
-  runs_application (to_expression {n = n} {o = o} {to = to} {from = a} {end = b} {ts = ts} {us = us} {x = x} {ys = ys} {t = t} c d p l e) s h =
-      runs_argument n o to a b ts us x ys t s c d (rw h l) (runs_application p s h) (runs e (argument x ys ∷ s) (ap (λ k. k + 1) h) (inl (operand_most e)))
+  runs_application (to_expression {n = n} {o = o} {to = to} {from = a} {end = b} {ts = ts} {us = us} {x = x} {ys = ys} {t =
+      t} c d p l e) s h =
+      runs_argument n o to a b ts us x ys t s c d (rw h l) (runs_application p s h)
+      (runs e (argument x ys ∷ s) (ap (λ k. k + 1) h) (inl (operand_most e)))
 
-  pub runs_head : {h : Head} {o : ℕ} {ts : List Lexeme} → IsHead h o ts → (s : List Frame) → depth s ≡ o → Fits (level h) (top s) → run (start s) ts ≡ start (governor h ∷ s)
+  pub runs_head : {h : Head} {o : ℕ} {ts : List Lexeme} → IsHead h o ts → (s : List Frame) → depth s ≡ o → Fits (level h) (top s)
+      → run (start s) ts ≡ start (governor h ∷ s)
   runs_head (left {n = n} {from = a} {to = b} {ts = ts} {t = t} {op = op} c e m l) s d f =
-      runs_left n op a b ts t s c m (fits_level op (top s) f) (rw d l) (runs e s d (inl (below_top n op (top s) m (fits_level op (top s) f))))
-  runs_head (negating c l) s d f = ap (λ y. cond y (within (depth s) (at mode.want (governor (tilde c.from) ∷ s))) None) (le-leb tilde_level (top s) (fits_tilde (top s) f)) ∙ within_yes (depth s) _ (rw d l)
+      runs_left n op a b ts t s c m (fits_level op (top s) f) (rw d l)
+      (runs e s d (inl (below_top n op (top s) m (fits_level op (top s) f))))
+  runs_head (negating c l) s d f = ap (λ y. cond y (within (depth s) (at mode.want (governor (tilde c.from) ∷ s))) None)
+      (le-leb tilde_level (top s) (fits_tilde (top s) f)) ∙ within_yes (depth s) _ (rw d l)
   runs_head (names {k = k} {ts = ts} {xs = xs} q a b c d sort ns p) s h f =
-      ap (λ m. run m (ts ++ (tok kind.colon b ∷ tok (kind.name sort) c ∷ tok kind.comma d ∷ []))) (within_yes (depth s) _ (rw h (names_below ns p)))
-      ∙ run-append _ ts _ ∙ ap (λ m. run m (tok kind.colon b ∷ tok (kind.name sort) c ∷ tok kind.comma d ∷ [])) (runs_names ns q a.from s h) ∙ runs_names_sort q a.from k xs s b c d sort p
+      ap (λ m. run m (ts ++ (tok kind.colon b ∷ tok (kind.name sort) c ∷ tok kind.comma d ∷ [])))
+      (within_yes (depth s) _ (rw h (names_below ns p)))
+      ∙ run-append _ ts _ ∙ ap (λ m. run m (tok kind.colon b ∷ tok (kind.name sort) c ∷ tok kind.comma d ∷ [])) (runs_names ns q a.from s h)
+      ∙ runs_names_sort q a.from k xs s b c d sort p
   runs_head (groups {ts = ts} q a d gs) s h f =
       ap (λ m. run m (ts ++ (tok kind.comma d ∷ []))) (within_yes (depth s) _ (rw h (groups_below gs)))
       ∙ run-append _ ts _ ∙ ap (λ m. next m (tok kind.comma d)) (runs_groups gs q a.from s h)
@@ -267,10 +326,20 @@ top_outer (outline ∷ s) h = refl
 top_outer (link w ∷ s) h = refl
 top_outer _ h = cc
 
-chains_word : (s : List Frame) (k : Kind) (c : Span) (t : Shape) → in_shape s ≡ true → step (at mode.want s) (tok k c) ≡ cond (in_shape s) (Some (at (mode.ended t) s)) None → Chains s (tok k c ∷ []) t
-chains_word s k c t h e = record { state = at (mode.ended t) s; ran = e ∙ ap (λ y. cond y (Some (at (mode.ended t) s)) None) h; finished = refl; closed = λ c. refl; foreign = λ k c h. refl }
+chains_word : (s : List Frame) (k : Kind) (c : Span) (t : Shape) → in_shape s ≡ true
+    → step (at mode.want s) (tok k c) ≡ cond (in_shape s) (Some (at (mode.ended t) s)) None → Chains s (tok k c ∷ []) t
+chains_word s k c t h e = record {
+  state = at (mode.ended t) s;
+  ran = e ∙ ap (λ y. cond y (Some (at (mode.ended t) s)) None) h;
+  finished =
+      refl;
+  closed = λ c. refl;
+  foreign = λ k c h. refl;
+}
 
-chains_arrow : (n a b : ℕ) (ts us : List Lexeme) (v : Expression) (t : Shape) (s : List Frame) (c : Span) → n ≤ outer → in_shape s ≡ true → depth s < limit → Arrives s ts n (before implication) a b v → Chains (link v ∷ s) us t → Chains s (ts ++ (tok (kind.sign implication) c ∷ us)) (made.arrow v t)
+chains_arrow : (n a b : ℕ) (ts us : List Lexeme) (v : Expression) (t : Shape) (s : List Frame) (c : Span) → n ≤ outer → in_shape s ≡ true
+    → depth s < limit → Arrives s ts n (before implication) a b v → Chains (link v ∷ s) us t
+    → Chains s (ts ++ (tok (kind.sign implication) c ∷ us)) (made.arrow v t)
 unfolding chain
 chains_arrow n a b ts us v t s c m h l r q = record {
   state = q.state;
@@ -281,10 +350,19 @@ chains_arrow n a b ts us v t s c m h l r q = record {
   foreign = q.foreign;
 }
 
-chains_plain : (n a b : ℕ) (ts : List Lexeme) (v : Expression) (s : List Frame) → in_shape s ≡ true → Arrives s ts n last a b v → Chains s ts (made.plain v)
-chains_plain n a b ts v s h r = record { state = r.state; ran = r.ran; finished = r.settles.1 ∙ whole_chain v b s h; closed = λ c. r.settles.0 c ∙ close_none v b c.to s h; foreign = r.settles.2 }
+chains_plain : (n a b : ℕ) (ts : List Lexeme) (v : Expression) (s : List Frame) → in_shape s ≡ true → Arrives s ts n last a b v
+    → Chains s ts (made.plain v)
+chains_plain n a b ts v s h r = record {
+  state = r.state;
+  ran = r.ran;
+  finished = r.settles.1 ∙ whole_chain v b s h;
+  closed =
+      λ c. r.settles.0 c ∙ close_none v b c.to s h;
+  foreign = r.settles.2;
+}
 
-pub chains : {o : ℕ} {ts : List Lexeme} {t : Shape} → IsShapeBehind o ts t → (s : List Frame) → in_shape s ≡ true → depth s ≡ o → Chains s ts t
+pub chains : {o : ℕ} {ts : List Lexeme} {t : Shape} → IsShapeBehind o ts t → (s : List Frame) → in_shape s ≡ true → depth s ≡ o
+    → Chains s ts t
 chains (set c) s h d = chains_word s kind.set c (made.set c) h refl
 chains (prop c) s h d = chains_word s kind.prop c (made.prop c) h refl
 chains (arrow {n = n} {from = a} {to = b} {ts = ts} {us = us} {t = v} {s = t} c e m l r) s h d =

@@ -28,13 +28,15 @@ abbrev quantified : Expression → Expression
 quantified t = governing (quantifier (binder true 0 (group (named (97 ∷ []) (span 0 0) ∷ []) (named (97 ∷ []) (span 0 0)) ∷ []) 1)) t 0
 
 -- ~ forall a : a, a <-> a <-> a
-row_equivalence : parsed [] (tokens (kind.tilde ∷ kind.quantifier true ∷ a ∷ kind.colon ∷ a ∷ kind.comma ∷ a ∷ kind.sign equivalence ∷ a ∷ kind.sign equivalence ∷ a ∷ []))
+row_equivalence : parsed [] (tokens (kind.tilde ∷ kind.quantifier true ∷ a ∷ kind.colon ∷ a ∷ kind.comma ∷ a ∷ kind.sign equivalence ∷ a ∷
+    kind.sign equivalence ∷ a ∷ []))
     ≡ Some (an_expression (joined equivalence (negated (quantified (joined equivalence name name))) name))
 unfolding place whole
 row_equivalence = refl
 
 -- ~ forall a : a, a /\ a
-row_conjunction : parsed [] (tokens (kind.tilde ∷ kind.quantifier true ∷ a ∷ kind.colon ∷ a ∷ kind.comma ∷ a ∷ kind.sign conjunction ∷ a ∷ []))
+row_conjunction : parsed [] (tokens (kind.tilde ∷ kind.quantifier true ∷ a ∷ kind.colon ∷ a ∷ kind.comma ∷ a ∷ kind.sign conjunction ∷ a ∷
+    []))
     ≡ Some (an_expression (negated (quantified (joined conjunction name name))))
 unfolding place whole
 row_conjunction = refl
@@ -50,7 +52,8 @@ unfolding place whole
 row_equation = refl
 
 -- the shape a -> a <-> a -> Set
-row_shape : parsed (outline ∷ []) (tokens (a ∷ kind.sign implication ∷ a ∷ kind.sign equivalence ∷ a ∷ kind.sign implication ∷ kind.set ∷ []))
+row_shape : parsed (outline ∷ []) (tokens (a ∷ kind.sign implication ∷ a ∷ kind.sign equivalence ∷ a ∷ kind.sign implication ∷ kind.set ∷
+    []))
     ≡ Some (a_shape (made.arrow name (made.arrow (joined equivalence name name) (made.set (span 0 0)))))
 unfolding place whole chain
 row_shape = refl

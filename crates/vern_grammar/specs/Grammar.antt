@@ -7,15 +7,19 @@ use Rattle.vern_grammar.specs.Kinds.{Kind, Lexeme}
 use Rattle.vern_grammar.specs.Kinds as kind
 use Rattle.vern_grammar.specs.Levels.{op_level, left_at_most, right_at_most, tilde_level, bare, outer, limit}
 
+-- a token of a kind with its span
 abbrev pub tok : Kind → Span → Lexeme
 tok k c = record { kind = k; span = c }
 
+-- the span from one offset on and before another
 abbrev pub span : ℕ → ℕ → Span
 span from to = record { from = from; to = to }
 
+-- a name with its text and its span
 abbrev pub named : List ℕ → Span → Name
 named x c = record { text = x; span = c }
 
+-- names of one sort, and that sort
 abbrev pub group : List Name → Name → Group
 group xs sort = record { names = xs; sort = sort }
 
@@ -23,6 +27,7 @@ group xs sort = record { names = xs; sort = sort }
 abbrev pub application : Name → List Expression → ℕ → Expression
 application x ys to = made.application x (expressions ys) (span x.span.from to)
 
+-- the tree of a name alone
 abbrev pub single : List ℕ → Span → Expression
 single x c = made.application (named x c) made.nil c
 
@@ -35,10 +40,12 @@ pub record Binder : Type 0 where
   pub groups : List Group
   pub bound : ℕ
 
+-- a quantifier with its offset, its groups and how many names it binds
 abbrev pub binder : Bool → ℕ → List Group → ℕ → Binder
 binder q from gs k = record { all = q; from = from; groups = gs; bound = k }
 
--- What stands before an operand and governs it: a left operand, which begins at an offset, with its operator; a `~` at an offset; a quantifier.
+-- What stands before an operand and governs it: a left operand, which begins at an offset, with its operator; a `~` at an offset; a
+-- quantifier.
 pub data Head : Type 0 where
   operator : Operator → Expression → ℕ → Head
   tilde : ℕ → Head
@@ -103,7 +110,8 @@ pub data IsNames : ℕ → ℕ → List Lexeme → List Name → Type 0 where
 pub data IsGroup : ℕ → ℕ → List Lexeme → Group → Type 0 where
   grouped : {o k : ℕ} {ts : List Lexeme} {xs : List Name} (a b c d : Span) (sort : List ℕ) →
       IsNames (o + 1) k ts xs → 0 < length xs →
-      IsGroup o k ((tok kind.opening a ∷ ts) ++ (tok kind.colon b ∷ tok (kind.name sort) c ∷ tok kind.closing d ∷ [])) (group xs (named sort c))
+      IsGroup o k ((tok kind.opening a ∷ ts) ++ (tok kind.colon b ∷ tok (kind.name sort) c ∷ tok kind.closing d ∷ []))
+      (group xs (named sort c))
 
 -- group+
 pub data IsGroups : ℕ → ℕ → List Lexeme → List Group → Type 0 where
@@ -113,7 +121,8 @@ pub data IsGroups : ℕ → ℕ → List Lexeme → List Group → Type 0 where
 
 -- ---- expressions
 
--- IsOperand n next o tokens from to tree: the tokens, from their first byte to behind their last, are an operand of level n with this tree, where
+-- IsOperand n next o tokens from to tree: the tokens, from their first byte to behind their last, are an operand of level n with this tree,
+-- where
 -- o openings are open before it and `next` comes behind it.
 mutual
   pub data IsOperand : ℕ → Next → ℕ → List Lexeme → ℕ → ℕ → Expression → Type 0 where
@@ -140,6 +149,7 @@ mutual
         IsApplication o ts x ys to → o < limit → IsOperand n last (o + 1) us from end t →
         IsApplication o (ts ++ ((tok kind.opening c ∷ us) ++ (tok kind.closing d ∷ []))) x (ys ++ (t ∷ [])) d.to
 
+  -- IsHead head o tokens: the tokens are a head, with all that it takes but its right operand, where o openings are open before them
   pub data IsHead : Head → ℕ → List Lexeme → Type 0 where
     -- operand operator
     left : {n o from to : ℕ} {ts : List Lexeme} {t : Expression} {op : Operator} (c : Span) →
@@ -163,6 +173,7 @@ IsExpression ts t = (n : ℕ) × (from : ℕ) × (to : ℕ) × IsOperand n last 
 
 -- ---- operands that end in a quantifier without parentheses
 
+-- EndsBare n next o tokens from to tree: the same of an operand that ends in such a quantifier
 pub data EndsBare : ℕ → Next → ℕ → List Lexeme → ℕ → ℕ → Expression → Type 0 where
   here : {g : Next} {n o from to : ℕ} {ts us : List Lexeme} {b : Binder} {t : Expression} →
       IsHead (quantifier b) o ts → Ends g n bare → IsOperand n g (o + b.bound) us from to t →
@@ -189,6 +200,7 @@ pub data IsShapeBehind : ℕ → List Lexeme → Shape → Type 0 where
   plain : {n o from to : ℕ} {ts : List Lexeme} {t : Expression} →
       IsOperand n last o ts from to t → Fits n outer → IsShapeBehind o ts (made.plain t)
 
+-- The tokens are a shape with this tree.
 abbrev pub IsShape : List Lexeme → Shape → Type 0
 IsShape ts t = IsShapeBehind 0 ts t
 
@@ -199,11 +211,13 @@ abbrev pub first_byte : List Lexeme → ℕ
 first_byte [] = 0
 first_byte (t ∷ ts) = t.span.from
 
+-- the offset behind the last of some tokens, or 0
 abbrev pub last_end : List Lexeme → ℕ
 last_end [] = 0
 last_end (t ∷ []) = t.span.to
 last_end (t ∷ u ∷ ts) = last_end (u ∷ ts)
 
+-- the span of a tree
 abbrev pub span_of : Expression → Span
 span_of (made.constant b c) = c
 span_of (made.application x ys c) = c

@@ -15,6 +15,7 @@ pub data Kind : Type 0 where
   tilde opening closing colon comma set prop : Kind
   other : TokenKind → Kind
 
+-- a token as the grammar sees it: its kind and its span
 pub record Lexeme : Type 0 where
   pub kind : Kind
   pub span : Span
@@ -45,6 +46,7 @@ kind_of k text = other k
 abbrev pub slice : List ℕ → Span → List ℕ
 slice sentence span = take (span.to - span.from) (drop span.from sentence)
 
+-- a token of a text as the grammar sees it
 abbrev pub lexeme : List ℕ → Token → Lexeme
 lexeme sentence t = record { kind = kind_of t.kind (slice sentence t.span); span = t.span }
 

@@ -17,6 +17,7 @@ op_level conjunction = 80
 op_level equation = 70
 op_level inequation = 70
 
+-- the most level of a left operand
 abbrev pub left_at_most : Operator → ℕ
 left_at_most implication = 98
 left_at_most equivalence = 94
@@ -25,6 +26,7 @@ left_at_most conjunction = 79
 left_at_most equation = 69
 left_at_most inequation = 69
 
+-- the most level of a right operand, but for a quantifier
 abbrev pub right_at_most : Operator → ℕ
 right_at_most implication = 99
 right_at_most equivalence = 94

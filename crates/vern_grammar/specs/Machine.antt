@@ -1,14 +1,17 @@
 -- The machine that reads a token at a time, on a stack of what waits for its end.
-use Rattle.std.specs.Prelude.{◌≡◌, ◌<◌, ◌≤◌, take, ℕ, ◌+◌, Bool, true, false, cond, ◌&&◌, nat_lt, nat_le, List, [], ◌∷◌, ◌++◌, length, Option, Some, None}
+use Rattle.std.specs.Prelude.{◌≡◌, ◌<◌, ◌≤◌, take, ℕ, ◌+◌, Bool, true, false, cond, ◌&&◌, nat_lt, nat_le, List, [], ◌∷◌, ◌++◌, length}
+use Rattle.std.specs.Prelude.{Option, Some, None}
 use Rattle.vern_lex.specs.declared.span.Span.{Span}
 use Rattle.vern_grammar.specs.Trees.{Operator, Name, Expression, Shape}
 use Rattle.vern_grammar.specs.Trees as made
 use Rattle.vern_grammar.specs.Kinds.{Kind, Lexeme}
 use Rattle.vern_grammar.specs.Kinds as kind
 use Rattle.vern_grammar.specs.Levels.{op_level, left_at_most, tilde_level, bare, outer, limit}
-use Rattle.vern_grammar.specs.Grammar.{named, group, application, single, Binder, binder, Head, operator, tilde, quantifier, level, room, openings, begin, governing}
+use Rattle.vern_grammar.specs.Grammar.{named, group, application, single, Binder, binder, Head, operator, tilde, quantifier, level, room}
+use Rattle.vern_grammar.specs.Grammar.{openings, begin, governing}
 
--- What waits for its end: a parenthesis from an offset; the argument in parentheses of a name with the arguments before it; the operand of a
+-- What waits for its end: a parenthesis from an offset; the argument in parentheses of a name with the arguments before it; the operand of
+-- a
 -- head; a whole shape; the rest of a shape behind an operand with its arrow.
 pub data Frame : Type 0 where
   parenthesis : ℕ → Frame
@@ -42,6 +45,7 @@ pub record State : Type 0 where
   pub mode : Mode
   pub stack : List Frame
 
+-- the state of a mode and its frames
 abbrev pub at : Mode → List Frame → State
 at m s = record { mode = m; stack = s }
 
@@ -83,9 +87,11 @@ pushed op v from s = cond (nat_le (op_level op) (top s)) (governor (operator op 
 abbrev pub shift : Operator → Bool → Expression → ℕ → List Frame → Option State
 shift op fits v from s = cond fits (within (depth s) (at want (pushed op v from s ∷ s))) None
 
--- An operator comes behind an operand. The newest head takes the operand where the operator may not have it, or may not stand behind the head.
+-- An operator comes behind an operand. The newest head takes the operand where the operator may not have it, or may not stand behind the
+-- head.
 unfoldable pub place : Operator → Bool → Expression → ℕ → ℕ → List Frame → Option State
-place op fits v from to (governor h ∷ s) = cond (fits && nat_le (op_level op) (room h)) (shift op true v from (governor h ∷ s)) (place op (nat_le (level h) (left_at_most op)) (governing h v to) (begin h) to s)
+place op fits v from to (governor h ∷ s) = cond (fits && nat_le (op_level op) (room h)) (shift op true v from (governor h ∷ s))
+    (place op (nat_le (level h) (left_at_most op)) (governing h v to) (begin h) to s)
 place op fits v from to s = shift op fits v from s
 
 -- A `)` that ends at `behind` comes behind an operand: all heads down to its `(` take their operands.
@@ -118,9 +124,11 @@ behind v from to s (kind.sign op) c = place op true v from to s
 behind v from to s kind.closing c = close v to c.to s
 behind v from to s _ c = None
 
+-- a quantifier that binds one name more
 abbrev pub counted : Binder → Binder
 counted b = binder b.all b.from b.groups (b.bound + 1)
 
+-- a quantifier with one group more
 abbrev pub with_group : Binder → List Name → Name → Binder
 with_group b xs sort = binder b.all b.from (b.groups ++ (group xs sort ∷ [])) b.bound
 
@@ -158,13 +166,16 @@ on (in_groups b) s kind.opening c = within (depth s + b.bound + 1) (at (in_group
 on (in_groups b) s kind.comma c = Some (at want (governor (quantifier b) ∷ s))
 on (in_groups b) s _ c = None
 
+-- the state behind one token more, or none where it is refused
 abbrev pub step : State → Lexeme → Option State
 step st k = on st.mode st.stack k.kind k.span
 
+-- the same behind a state that there may be
 abbrev pub next : Option State → Lexeme → Option State
 next None t = None
 next (Some st) t = step st t
 
+-- the state behind all tokens
 abbrev pub run : Option State → List Lexeme → Option State
 run m [] = m
 run m (t ∷ ts) = run (next m t) ts
@@ -176,6 +187,7 @@ result (after v from to) s = whole v to s
 result (ended t) s = chain t s
 result _ s = None
 
+-- what was read in a state that there may be
 abbrev pub ends : Option State → Option Phrase
 ends None = None
 ends (Some st) = result st.mode st.stack

@@ -16,7 +16,8 @@ pub record Group : Type 0 where
   pub names : List Name
   pub sort : Name
 
--- A constant is `True` or `False`; an application of no arguments is a name alone; a quantifier is `forall` or `exists`. Of the two, the flag is
+-- A constant is `True` or `False`; an application of no arguments is a name alone; a quantifier is `forall` or `exists`. Of the two, the
+-- flag is
 -- true for the first.
 mutual
   pub data Expression : Type 0 where
@@ -26,6 +27,7 @@ mutual
     negation : Expression → Span → Expression
     quantified : Bool → List Group → Expression → Span → Expression
 
+  -- arguments, in order
   pub data Expressions : Type 0 where
     nil : Expressions
     cons : Expression → Expressions → Expressions

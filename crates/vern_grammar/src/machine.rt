@@ -9,9 +9,11 @@ ghost use Rattle.vern_grammar.specs.Machine.{Fails, Phrase, a_shape, an_expressi
 /// is the grammar's fault. It begins behind no frame for an expression, and behind `outline` for a shape.
 pub fn the_machine_reads_the_grammar()
     ensures expression_read { (ts : List Lexeme) (t : Expression) → IsExpression ts t → parsed [] ts ≡ Some (an_expression t) }
-    ensures expression_given { (ts : List Lexeme) (p : Phrase) → parsed [] ts ≡ Some p → (t : Expression) × (p ≡ an_expression t) × IsExpression ts t }
+    ensures expression_given { (ts : List Lexeme) (p : Phrase) → parsed [] ts ≡ Some p
+        → (t : Expression) × (p ≡ an_expression t) × IsExpression ts t }
     ensures expression_fault { (ts : List Lexeme) (p : ℕ) → Fails [] ts p → IsFault IsExpression ts p }
     ensures shape_read { (ts : List Lexeme) (t : Shape) → IsShape ts t → parsed (outline ∷ []) ts ≡ Some (a_shape t) }
-    ensures shape_given { (ts : List Lexeme) (p : Phrase) → parsed (outline ∷ []) ts ≡ Some p → (t : Shape) × (p ≡ a_shape t) × IsShape ts t }
+    ensures shape_given { (ts : List Lexeme) (p : Phrase) → parsed (outline ∷ []) ts ≡ Some p
+        → (t : Shape) × (p ≡ a_shape t) × IsShape ts t }
     ensures shape_fault { (ts : List Lexeme) (p : ℕ) → Fails (outline ∷ []) ts p → IsFault IsShape ts p }
 {}

@@ -9,5 +9,6 @@ ghost use Rattle.vern_grammar.specs.Grammar.{IsEnclosed, IsOperand, Next, first_
 pub fn spans_are_those_of_the_tokens()
     ensures first { (n o from to : ℕ) (g : Next) (ts : List Lexeme) (t : Expression) → IsOperand n g o ts from to t → from ≡ first_byte ts }
     ensures last { (n o from to : ℕ) (g : Next) (ts : List Lexeme) (t : Expression) → IsOperand n g o ts from to t → to ≡ last_end ts }
-    ensures tree { (n o from to : ℕ) (g : Next) (ts : List Lexeme) (t : Expression) → IsOperand n g o ts from to t → (span_of t ≡ span from to) ⊎ IsEnclosed o ts t }
+    ensures tree { (n o from to : ℕ) (g : Next) (ts : List Lexeme) (t : Expression) → IsOperand n g o ts from to t
+        → (span_of t ≡ span from to) ⊎ IsEnclosed o ts t }
 {}

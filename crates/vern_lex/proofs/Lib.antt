@@ -2,9 +2,11 @@ pub mod Alone
 pub mod Between
 pub mod Cuts
 pub mod Cutting
+pub mod Endings
 pub mod Faults
 pub mod Gaps
 pub mod Lexing
 pub mod Outsides
 pub mod Parts
+pub mod Spelled
 pub mod Tables

@@ -1,5 +1,7 @@
 -- The closers of each end of a text.
-use Rattle.std.proofs.Common.{◌≡◌, ℕ, zero, suc, ◌+◌, ◌-◌, ◌<◌, ◌≤◌, ◌⊎◌, inl, inr, ◌&&◌, ◌==◌, List, [], ◌∷◌, ◌++◌, length, drop, get_or, Bool, true, false, Option, Some, None, MatchOption, Bor, if◌then◌else◌, length-drop, refl, sym, ap, ◌∙◌, subst, arith}
+use Rattle.std.proofs.Common.{◌≡◌, ℕ, zero, suc, ◌+◌, ◌-◌, ◌<◌, ◌≤◌, ◌⊎◌, inl, inr, ◌&&◌, ◌==◌, List, [], ◌∷◌, ◌++◌, length, drop, get_or}
+use Rattle.std.proofs.Common.{Bool, true, false, Option, Some, None, MatchOption, Bor, if◌then◌else◌, length-drop, refl, sym, ap, ◌∙◌}
+use Rattle.std.proofs.Common.{subst, arith}
 use Rattle.std.proofs.lemmas.Bool.{cases_lt}
 use Rattle.std.proofs.lemmas.List.{drop-drop, drop_all, get_or_append_left, get_or_push, length_push}
 use Rattle.vern_lex.specs.Closers.{closers, IsTable}
@@ -13,14 +15,20 @@ behind_none (suc d) (a ∷ []) h = refl
 behind_none (suc d) (a ∷ b ∷ rest) h =
     by (a == 40 && b == 42) (a == 42 && b == 41) (behind_none (suc (suc d)) rest) (behind_none d rest) (behind_none (suc d) (b ∷ rest)) h
   where
-    by : (s t : Bool) → (closers rest < suc (suc d) → behind (suc (suc d)) rest ≡ None) → (closers rest < d → behind d rest ≡ None) → (closers (b ∷ rest) < suc d → behind (suc d) (b ∷ rest) ≡ None)
+    by : (s t : Bool) → (closers rest < suc (suc d) → behind (suc (suc d)) rest ≡ None) → (closers rest < d → behind d rest ≡ None)
+        → (closers (b ∷ rest) < suc d → behind (suc d) (b ∷ rest) ≡ None)
         → elim s [ true ↦ closers rest - 1 | false ↦ elim t [ true ↦ closers rest + 1 | false ↦ closers (b ∷ rest) ] ] < suc d
-        → ◌≡◌ {A = Option (List ℕ)} (elim s [ true ↦ behind (suc (suc d)) rest | false ↦ elim t [ true ↦ behind d rest | false ↦ behind (suc d) (b ∷ rest) ] ]) None
+        → ◌≡◌ {A = Option (List ℕ)} (elim s [
+          | true ↦ behind (suc (suc d)) rest
+          | false ↦ elim t
+              [ true ↦ behind d rest | false ↦ behind (suc d) (b ∷ rest) ]
+        ]) None
     by true t f g k h = f (omega (arith, h))
     by false true f g k h = g (omega (arith, h))
     by false false f g k h = k h
 
-pub closers_step : (text : List ℕ) → closers text ≡ (if opens_comment text then closers (drop 2 text) - 1 else (if closes_comment text then closers (drop 2 text) + 1 else closers (drop 1 text)))
+pub closers_step : (text : List ℕ) → closers text ≡ (if opens_comment text then closers (drop 2 text) - 1 else
+    (if closes_comment text then closers (drop 2 text) + 1 else closers (drop 1 text)))
 closers_step [] = refl
 closers_step (a ∷ []) = refl
 closers_step (a ∷ b ∷ rest) = by (a == 40 && b == 42) (a == 42 && b == 41)
@@ -37,7 +45,8 @@ closers-within (a ∷ []) = omega arith
 closers-within (a ∷ b ∷ rest) = by (a == 40 && b == 42) (a == 42 && b == 41) (closers-within rest) (closers-within (b ∷ rest))
   where
     by : (s t : Bool) → closers rest ≤ length rest → closers (b ∷ rest) ≤ length (b ∷ rest)
-        → elim s [ true ↦ closers rest - 1 | false ↦ elim t [ true ↦ closers rest + 1 | false ↦ closers (b ∷ rest) ] ] ≤ length (a ∷ b ∷ rest)
+        → elim s [ true ↦ closers rest - 1 | false ↦ elim t [ true ↦ closers rest + 1 | false ↦ closers (b ∷ rest) ] ] ≤ length
+        (a ∷ b ∷ rest)
     by true t h k = omega (arith, h)
     by false true h k = omega (arith, h)
     by false false h k = omega (arith, k)
@@ -50,32 +59,21 @@ pub record IsBegun (text table : List ℕ) (place next second : ℕ) : Type 0 wh
   pub long : length table ≡ length text - place + 1
   pub each : (k : ℕ) → k ≤ length text - place → get_or table k 0 ≡ closers (drop (length text - k) text)
 
-pub table_begun : (text : List ℕ) → IsBegun text (0 ∷ []) (length text) 0 0
-table_begun text =
-    let none = drop_all (length text) text (omega arith) in
-    record {
-      within = omega arith;
-      is_next = sym (ap closers none);
-      is_second = sym (ap closers (drop_all (length text + 1) text (omega arith)));
-      long = omega arith;
-      each = λ k h. first k (omega (arith, h));
-    }
-  where
-    first : (k : ℕ) → k ≡ 0 → get_or (0 ∷ []) k 0 ≡ closers (drop (length text - k) text)
-    first k e =
-        let whole : length text ≡ length text - k = omega (arith, e) in
-        ap (λ j. get_or (0 ∷ []) j 0) e ∙ sym (ap closers (drop_all (length text) text (omega arith))) ∙ ap (λ j. closers (drop j text)) whole
-
-pub table_grown : (text table rest : List ℕ) (place before next second here : ℕ) → IsBegun text table place next second → 0 < place → before ≡ place - 1 → rest ≡ drop before text
-    → here ≡ (if opens_comment rest then second - 1 else (if closes_comment rest then second + 1 else next)) → IsBegun text (table ++ here ∷ []) before here next
+pub table_grown : (text table rest : List ℕ) (place before next second here : ℕ) → IsBegun text table place next second → 0 < place
+    → before ≡ place - 1 → rest ≡ drop before text
+    → here ≡ (if opens_comment rest then second - 1 else (if closes_comment rest then second + 1 else next))
+    → IsBegun text (table ++ here ∷ []) before here next
 table_grown text table rest place before next second here i h b r e =
     let one : before + 1 ≡ place = omega (arith, h, b) in
     let two : before + 2 ≡ place + 1 = omega (arith, one) in
-    let after : next ≡ closers (drop 1 rest) = i.is_next ∙ ap (λ k. closers (drop k text)) (sym one) ∙ sym (ap closers (ap (drop 1) r ∙ drop-drop 1 before text)) in
-    let later : second ≡ closers (drop 2 rest) = i.is_second ∙ ap (λ k. closers (drop k text)) (sym two) ∙ sym (ap closers (ap (drop 2) r ∙ drop-drop 2 before text)) in
+    let after : next ≡ closers (drop 1 rest) = i.is_next ∙ ap (λ k. closers (drop k text)) (sym one)
+    ∙ sym (ap closers (ap (drop 1) r ∙ drop-drop 1 before text)) in
+    let later : second ≡ closers (drop 2 rest) = i.is_second ∙ ap (λ k. closers (drop k text)) (sym two)
+    ∙ sym (ap closers (ap (drop 2) r ∙ drop-drop 2 before text)) in
     let is_here : here ≡ closers rest =
     e ∙ ap (λ n. if opens_comment rest then second - 1 else (if closes_comment rest then second + 1 else n)) after
-    ∙ ap (λ n. if opens_comment rest then n - 1 else (if closes_comment rest then n + 1 else closers (drop 1 rest))) later ∙ sym (closers_step rest) in
+    ∙ ap (λ n. if opens_comment rest then n - 1 else (if closes_comment rest then n + 1 else closers (drop 1 rest))) later
+    ∙ sym (closers_step rest) in
     record {
       within = omega (arith, i.within, b);
       is_next = is_here ∙ ap closers r;
@@ -84,27 +82,13 @@ table_grown text table rest place before next second here i h b r e =
       each = λ k w. by is_here k w (cases_lt k (length table));
     }
   where
-    by : here ≡ closers rest → (k : ℕ) → k ≤ length text - before → (k < length table) ⊎ (length table ≤ k) → get_or (table ++ here ∷ []) k 0 ≡ closers (drop (length text - k) text)
+    by : here ≡ closers rest → (k : ℕ) → k ≤ length text - before → (k < length table) ⊎ (length table ≤ k)
+        → get_or (table ++ here ∷ []) k 0 ≡ closers (drop (length text - k) text)
     by x k w (inl l) = get_or_append_left table (here ∷ []) 0 k l ∙ i.each k (omega (arith, l, i.long))
     by x k w (inr l) =
         let last : length table ≡ k = omega (arith, l, w, i.long, i.within, h, b) in
         let there : before ≡ length text - k = omega (arith, last, i.long, i.within, h, b) in
         get_or_push table here 0 k last ∙ x ∙ ap closers r ∙ ap (λ j. closers (drop j text)) there
-
-pub table_done : (text table : List ℕ) (place next second : ℕ) → IsBegun text table place next second → place ≡ 0 → IsTable text table
-table_done text table place next second i e = record { long = omega (arith, i.long, e); each = λ k h. i.each k (omega (arith, h, e)) }
-
--- the table of a text is one of each of its ends
-pub table_rest : (text table rest : List ℕ) (at : ℕ) → IsTable text table → at ≤ length text → rest ≡ drop at text → IsTable rest table
-table_rest text table rest at i h r = record { long = omega (arith, i.long, count); each = each }
-  where
-    count : length rest ≡ length text - at
-    count = ap length r ∙ length-drop at text
-
-    each : (k : ℕ) → k ≤ length rest → get_or table k 0 ≡ closers (drop (length rest - k) rest)
-    each k w =
-        let place : length text - k ≡ at + (length rest - k) = omega (arith, h, w, count) in
-        i.each k (omega (arith, w, count)) ∙ ap (λ j. closers (drop j text)) place ∙ sym (ap closers (drop-drop (length rest - k) at text)) ∙ sym (ap (λ xs. closers (drop (length rest - k) xs)) r)
 
 all_but_two : (a b : ℕ) (rest : List ℕ) → length (a ∷ b ∷ rest) - 2 ≡ length rest
 all_but_two a b rest = omega arith
@@ -119,17 +103,15 @@ none_closed a b rest o closed =
     ∙ ap (λ r. elim r [ None ↦ 0 | Some after ↦ length (a ∷ b ∷ rest) - length after ]) none
 
 -- a comment doesn't end where nothing closes it
-pub table_none : (text table : List ℕ) → IsTable text table → opens_comment text ≡ true → get_or table (length text - 2) 0 ≡ 0 → comment_length text ≡ 0
+pub table_none : (text table : List ℕ) → IsTable text table → opens_comment text ≡ true → get_or table (length text - 2) 0 ≡ 0
+    → comment_length text ≡ 0
 table_none [] table i o e = refl
 table_none (a ∷ []) table i o e = refl
 table_none (a ∷ b ∷ rest) table i o e =
     let here = i.each (length rest) (omega arith) in
     none_closed a b rest o (sym (ap closers (two_left a b rest)) ∙ sym here ∙ ap (λ k. get_or table k 0) (sym (all_but_two a b rest)) ∙ e)
 
--- a table that may be at hand
-pub known_rest : (text rest : List ℕ) (o : Option (Bor (List ℕ))) (at : ℕ) → MatchOption o (Unit {0}) (λ t. IsTable text t.now) → at ≤ length text → rest ≡ drop at text → MatchOption o (Unit {0}) (λ t. IsTable rest t.now)
-known_rest text rest None at k h r = tt
-known_rest text rest (Some t) at k h r = table_rest text t.now rest at k h r
-
-pub known_table : (text : List ℕ) (o : Option (Bor (List ℕ))) (t : Bor (List ℕ)) → o ≡ Some t → MatchOption o (Unit {0}) (λ t. IsTable text t.now) → IsTable text t.now
-known_table text o t e k = let known : MatchOption (Some t) (Unit {0}) (λ t. IsTable text t.now) = subst (λ o. MatchOption o (Unit {0}) (λ t. IsTable text t.now)) e k in known
+pub known_table : (text : List ℕ) (o : Option (Bor (List ℕ))) (t : Bor (List ℕ)) → o ≡ Some t
+    → MatchOption o (Unit {0}) (λ t. IsTable text t.now) → IsTable text t.now
+known_table text o t e k = let known : MatchOption (Some t) (Unit {0}) (λ t. IsTable text t.now) =
+    subst (λ o. MatchOption o (Unit {0}) (λ t. IsTable text t.now)) e k in known

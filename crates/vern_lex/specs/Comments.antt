@@ -1,5 +1,6 @@
 -- Blanks and comments of a text, and what stands outside of its comments.
-use Rattle.std.specs.Prelude.{◌≡◌, ℕ, zero, suc, ◌+◌, ◌-◌, ◌<◌, ◌&&◌, ◌||◌, ◌==◌, List, [], ◌∷◌, ◌++◌, length, take, drop, Bool, true, false, not, Option, Some, None, if◌then◌else◌}
+use Rattle.std.specs.Prelude.{◌≡◌, ℕ, zero, suc, ◌+◌, ◌-◌, ◌<◌, ◌&&◌, ◌||◌, ◌==◌, List, [], ◌∷◌, ◌++◌, length, take, drop, Bool, true}
+use Rattle.std.specs.Prelude.{false, not, Option, Some, None, if◌then◌else◌}
 
 -- tab, line feed, form feed, carriage return and space
 abbrev pub is_blank : ℕ → Bool
@@ -33,7 +34,8 @@ behind (suc deep) (a ∷ b ∷ rest) =
 abbrev pub comment_length : List ℕ → ℕ
 comment_length [] = 0
 comment_length (a ∷ []) = 0
-comment_length (a ∷ b ∷ rest) = if a == 40 && b == 42 then elim (behind 1 rest) [ None ↦ 0 | Some after ↦ length (a ∷ b ∷ rest) - length after ] else 0
+comment_length (a ∷ b ∷ rest) = if a == 40 && b == 42 then elim (behind 1 rest)
+    [ None ↦ 0 | Some after ↦ length (a ∷ b ∷ rest) - length after ] else 0
 
 -- what stands in the place of a byte of a comment: 256, which is no byte
 abbrev pub no_byte : ℕ

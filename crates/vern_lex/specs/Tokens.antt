@@ -1,12 +1,16 @@
 -- The tokens of a sentence.
-use Rattle.std.specs.Prelude.{◌≡◌, ℕ, zero, suc, ◌+◌, ◌<◌, ◌≤◌, ◌&&◌, ◌||◌, ◌==◌, List, [], ◌∷◌, length, drop, slice_index, Bool, nat_eq, true, nat_le, take_while, codes, Option, Some, None, if◌then◌else◌}
+use Rattle.std.specs.Prelude.{◌≡◌, ℕ, zero, suc, ◌+◌, ◌<◌, ◌≤◌, ◌&&◌, ◌||◌, ◌==◌, List, [], ◌∷◌, length, drop, slice_index, Bool, nat_eq}
+use Rattle.std.specs.Prelude.{true, nat_le, take_while, codes, Option, Some, None, if◌then◌else◌}
 use Rattle.std.specs.List.{list_all}
 use Rattle.std.specs.Cmp.Lexicographic.{pointwise}
 use Rattle.vern_lex.specs.Comments.{IsGap, outside, first_place, begins, part}
 use Rattle.vern_lex.specs.Sentences.{is_bullet}
 use Rattle.vern_lex.specs.declared.token.Token.{Token}
 use Rattle.vern_lex.specs.declared.token.TokenKind.{TokenKind}
-use Rattle.vern_lex.specs.declared.token.TokenKind.TheVariants.{Name, Forall, Exists, Prop, Set, True, False, As, In, Iff, Define, Arrow, BackArrow, NotEqual, And, Or, LeftParenthesis, RightParenthesis, LeftBracket, RightBracket, Colon, Comma, Not, Equal, Bar, FullStop, Bullet, LeftBrace, RightBrace, Stray}
+use Rattle.vern_lex.specs.declared.token.TokenKind.TheVariants.{Name, Forall, Exists, Prop, Set, True, False, As, In, Iff, Define, Arrow}
+use Rattle.vern_lex.specs.declared.token.TokenKind.TheVariants.{BackArrow, NotEqual, And, Or, LeftParenthesis, RightParenthesis}
+use Rattle.vern_lex.specs.declared.token.TokenKind.TheVariants.{LeftBracket, RightBracket, Colon, Comma, Not, Equal, Bar, FullStop, Bullet}
+use Rattle.vern_lex.specs.declared.token.TokenKind.TheVariants.{LeftBrace, RightBrace, Stray}
 
 -- ---- words
 
@@ -71,16 +75,19 @@ token_of at kind n = record { kind = kind; span = record { from = at; to = at + 
 
 -- the longest sign that begins with the bytes a, b and c; the only one of three bytes is `<->`
 abbrev pub sign_of : ℕ → ℕ → ℕ → ℕ → Token
-sign_of at a b c = if c == 62 && b == 45 && a == 60 then token_of at Iff 3 else elim (pair_kind a b) [ Some kind ↦ token_of at kind 2 | None ↦ token_of at (single_kind a) 1 ]
+sign_of at a b c = if c == 62 && b == 45 && a == 60 then token_of at Iff 3 else elim (pair_kind a b)
+    [ Some kind ↦ token_of at kind 2 | None ↦ token_of at (single_kind a) 1 ]
 
--- a sign whose first byte is given, and what stands behind that byte, with 0 for what isn't there; a `.` closes a sentence only as its last byte
+-- a sign whose first byte is given, and what stands behind that byte, with 0 for what isn't there; a `.` closes a sentence only as its last
+-- byte
 abbrev pub sign_at : ℕ → ℕ → List ℕ → Token
 sign_at at a rest = if a == 46 && length rest == 0 then token_of at FullStop 1 else sign_of at a (slice_index rest 0) (slice_index rest 1)
 
 -- the longest token that begins a text, which begins at the offset `at`
 abbrev pub token_at : ℕ → List ℕ → Option Token
 token_at at [] = None
-token_at at (b ∷ rest) = Some (if begins_name b then token_of at (word_kind (first_name (b ∷ rest))) (length (first_name (b ∷ rest))) else sign_at at b rest)
+token_at at (b ∷ rest) = Some (if begins_name b then token_of at (word_kind (first_name (b ∷ rest)))
+    (length (first_name (b ∷ rest))) else sign_at at b rest)
 
 -- the first token of a text that begins at the offset `at`, behind blanks and whole comments
 abbrev pub next_token : ℕ → List ℕ → Option Token
@@ -89,7 +96,8 @@ next_token at text = token_at (at + first_place begins (outside text)) (drop (fi
 -- the tokens of a text behind the offset `at`, at most so many
 abbrev pub tokens_behind : ℕ → List ℕ → ℕ → List Token
 tokens_behind zero text at = []
-tokens_behind (suc most) text at = elim (next_token at (drop at text)) [ None ↦ [] | Some token ↦ token ∷ tokens_behind most text token.span.to ]
+tokens_behind (suc most) text at = elim (next_token at (drop at text))
+    [ None ↦ [] | Some token ↦ token ∷ tokens_behind most text token.span.to ]
 
 -- the kind of a brace or a bullet that is a sentence alone
 abbrev pub lone_kind : List ℕ → Option TokenKind
@@ -102,7 +110,11 @@ lone_kind (b ∷ rest) =
 
 -- the tokens of a sentence
 abbrev pub tokens_of : List ℕ → List Token
-tokens_of sentence = elim (lone_kind sentence) [ Some kind ↦ token_of 0 kind (length sentence) ∷ [] | None ↦ tokens_behind (length sentence) sentence 0 ]
+tokens_of sentence = elim (lone_kind sentence) [
+  | Some kind ↦ token_of 0 kind (length sentence) ∷ []
+  | None ↦ tokens_behind
+      (length sentence) sentence 0
+]
 
 -- ---- what tokens are
 
@@ -111,6 +123,36 @@ pub record IsTokenOf (sentence : List ℕ) (token : Token) : Type 0 where
   pub begun : begins (outside (drop token.span.from sentence)) ≡ true
   pub some : token.span.from < token.span.to
   pub within : token.span.to ≤ length sentence
+
+-- the kind of a sign by its bytes: `<->`, a sign of two bytes, or one byte, which may be stray
+abbrev pub sign_kind : List ℕ → Option TokenKind
+sign_kind [] = None
+sign_kind (a ∷ []) = Some (single_kind a)
+sign_kind (a ∷ b ∷ []) = pair_kind a b
+sign_kind (a ∷ b ∷ c ∷ []) = if c == 62 && b == 45 && a == 60 then Some Iff else None
+sign_kind (a ∷ b ∷ c ∷ d ∷ rest) = None
+
+-- the kind that bytes have as a word or a sign, or none where they are neither
+abbrev pub spelled_kind : List ℕ → Option TokenKind
+spelled_kind [] = None
+spelled_kind (b ∷ rest) =
+    if begins_name b then (if list_all continues_name rest then Some (word_kind (b ∷ rest)) else None)
+    else sign_kind (b ∷ rest)
+
+-- A token is a brace or a bullet that is a sentence alone; or the full stop that is the sentence's last byte; or else a word or a sign,
+-- which
+-- with the byte behind it, if there is one, is neither.
+pub data IsSpelled (sentence : List ℕ) (token : Token) : Type 0 where
+  lone : lone_kind sentence ≡ Some token.kind → token.span.from ≡ 0 → token.span.to ≡ length sentence → IsSpelled sentence token
+  full_stop :
+      lone_kind sentence ≡ None → token.kind ≡ FullStop → part token.span.from token.span.to sentence ≡ 46 ∷ []
+      → token.span.to ≡ length sentence →
+      IsSpelled sentence token
+  other :
+      lone_kind sentence ≡ None → (part token.span.from token.span.to sentence ≡ 46 ∷ [] → token.span.to < length sentence) →
+      spelled_kind (part token.span.from token.span.to sentence) ≡ Some token.kind →
+      (token.span.to < length sentence → spelled_kind (part token.span.from (token.span.to + 1) sentence) ≡ None) →
+      IsSpelled sentence token
 
 -- each token begins where the one before it ends, or behind, and the first at the offset `at`, or behind
 abbrev pub TokensRise : ℕ → List Token → Type 0

@@ -1,5 +1,6 @@
 //! Blanks and comments.
-ghost use Rattle.std.specs.Prelude.{◌≡◌, ◌+◌, ◌-◌, ◌<◌, ◌≤◌, ◌^◌, length, drop, slice_index, if◌then◌else◌, IfOk, Option, Some, None, MatchOption};
+ghost use Rattle.std.specs.Prelude.{◌≡◌, ◌+◌, ◌-◌, ◌<◌, ◌≤◌, ◌^◌, length, drop, slice_index, if◌then◌else◌, IfOk, Option, Some, None};
+ghost use Rattle.std.specs.Prelude.{MatchOption};
 ghost use Rattle.vern_lex.specs.Closers.{IsTable};
 ghost use Rattle.vern_lex.specs.Comments.{behind, begins, comment_length, first_place, closes_comment, is_blank, opens_comment, outside};
 

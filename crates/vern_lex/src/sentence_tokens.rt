@@ -3,7 +3,8 @@ ghost use Rattle.std.specs.Prelude.{◌≡◌, ℕ, ◌+◌, ◌<◌, ◌==◌, 
 ghost use Rattle.std.specs.List.{list_all};
 ghost use Rattle.vern_lex.specs.Closers.{IsTable};
 ghost use Rattle.vern_lex.specs.Comments.{opens_comment};
-ghost use Rattle.vern_lex.specs.Tokens.{HasOnlyGaps, IsTokenOf, TokensRise, lone_kind, next_token, token_at, token_of, tokens_behind, tokens_of, word_kind};
+ghost use Rattle.vern_lex.specs.Tokens.{HasOnlyGaps, IsSpelled, IsTokenOf, TokensRise, lone_kind, next_token, token_at, token_of};
+ghost use Rattle.vern_lex.specs.Tokens.{tokens_behind, tokens_of, word_kind};
 
 use crate::comments::{closers_table, gap_length, opens_comment, table_of};
 use crate::sentences::is_bullet;
@@ -61,11 +62,12 @@ fn opens_comment_at(text: &[u8], at: u64) -> bool
     }
 }
 
-/// The laws of tokens: they rise and don't overlap, each is a slice of its sentence, and what stands between
-/// them is blanks and whole comments.
+/// The laws of tokens: they rise and don't overlap, each is a slice of its sentence, its kind is that of its bytes
+/// and the byte behind it makes no longer one, and what stands between them is blanks and whole comments.
 pub fn tokens_are_slices()
     ensures rise { (sentence : List ℕ) → TokensRise 0 (tokens_of sentence) }
     ensures each { (sentence : List ℕ) → All (IsTokenOf sentence) (tokens_of sentence) }
+    ensures spelled { (sentence : List ℕ) → All (IsSpelled sentence) (tokens_of sentence) }
     ensures between { (sentence : List ℕ) → All (λ b. b < 256) sentence → HasOnlyGaps sentence 0 (tokens_of sentence) }
 {}
 

@@ -3,7 +3,9 @@ ghost use Rattle.std.specs.Prelude.{◌≡◌, ℕ, List, All, ◌+◌, ◌<◌,
 ghost use Rattle.std.specs.List.{prefix_len};
 ghost use Rattle.vern_lex.specs.Comments.{IsGap, comment_length, first_place, outside};
 ghost use Rattle.vern_lex.specs.declared.sentences.CutFault.{CutFault};
-ghost use Rattle.vern_lex.specs.Sentences.{HasGapsBefore, IsCutAlone, IsFaultOf, IsSentenceSpan, Rise, last_end, place_of, is_brace, is_bullet, next_sentence, sentence_at, sentence_length, sentences_of, length_to_full_stop, stops, is_blank_or_end, within_limit};
+ghost use Rattle.vern_lex.specs.Sentences.{HasGapsBefore, IsCutAlone, IsFaultOf, IsSentenceSpan, IsWholeSentence, Rise, last_end, place_of};
+ghost use Rattle.vern_lex.specs.Sentences.{is_brace, is_bullet, next_sentence, sentence_at, sentence_length, sentences_of};
+ghost use Rattle.vern_lex.specs.Sentences.{length_to_full_stop, stops, is_blank_or_end, within_limit};
 
 use crate::comments::{comment_length, gap_length, is_blank, opens_comment};
 use crate::span::{Span, Spans};
@@ -54,17 +56,21 @@ pub fn cut_sentences(alloc: Global, text: &[u8]) -> Result<SentenceCut, NoMemory
     Ok(cut_up_to(spans, at, None))
 }
 
-/// The laws of cutting: spans rise and don't overlap, each is of a sentence, and its bytes cut alone are that
-/// sentence; `rest` is where the last ends; blanks and comments before a sentence don't belong to it, and they
-/// alone are left where there is no fault; a fault isn't before `rest`, and at its offset stands what it says.
+/// The laws of cutting: spans rise and don't overlap, each is of a sentence, goes as far as its first byte says, and
+/// its bytes cut alone are that sentence; `rest` is where the last ends; blanks and comments before a sentence don't
+/// belong to it, and they alone are left where there is no fault; a fault isn't before `rest`, and at its offset
+/// stands what it says.
 pub fn spans_are_of_sentences()
     ensures rise { (text : List ℕ) → Rise 0 (sentences_of text).spans }
     ensures each { (text : List ℕ) → All (IsSentenceSpan text) (sentences_of text).spans }
+    ensures whole { (text : List ℕ) → All (IsWholeSentence text) (sentences_of text).spans }
     ensures alone { (text : List ℕ) → All (IsCutAlone text) (sentences_of text).spans }
     ensures rest { (text : List ℕ) → (sentences_of text).rest ≡ last_end 0 (sentences_of text).spans }
     ensures between { (text : List ℕ) → All (λ b. b < 256) text → HasGapsBefore text 0 (sentences_of text).spans }
-    ensures left { (text : List ℕ) → All (λ b. b < 256) text → (sentences_of text).fault ≡ None → IsGap (drop (sentences_of text).rest text) }
-    ensures faulted { (text : List ℕ) (fault : CutFault) → (sentences_of text).fault ≡ Some fault → ((sentences_of text).rest ≤ place_of fault) × IsFaultOf (outside text) fault }
+    ensures left { (text : List ℕ) → All (λ b. b < 256) text → (sentences_of text).fault ≡ None
+        → IsGap (drop (sentences_of text).rest text) }
+    ensures faulted { (text : List ℕ) (fault : CutFault) → (sentences_of text).fault ≡ Some fault
+        → ((sentences_of text).rest ≤ place_of fault) × IsFaultOf (outside text) fault }
 {}
 
 /// What was cut up to an offset where nothing more is.
@@ -153,7 +159,8 @@ fn run_length(text: &[u8], byte: u8) -> usize
 /// The length of a sentence that ends with a full stop, in a text that begins at an offset.
 fn length_to_full_stop(text: &[u8], at: usize) -> Result<usize, CutFault>
     requires { at + length text.now < 2 ^ 64 }
-    ensures value { result ≡ length_to_full_stop at (first_place stops (outside text.now)) (drop (first_place stops (outside text.now)) (outside text.now)) }
+    ensures value { result ≡ length_to_full_stop at (first_place stops (outside text.now))
+        (drop (first_place stops (outside text.now)) (outside text.now)) }
     ensures within { IfOk result (λ n. n ≤ length text.now) }
 {
     let place = stop_place(text);
@@ -221,11 +228,8 @@ mod tests {
             None,
         ),
         (
-            b"Parameter A : Prop. Parameter B : Prop. Lemma c : A /\\ B -> B /\\ A. Proof. intro h. destruct h as [a b]. split. exact b. exact a. Qed.",
-            &[
-                0, 19, 20, 39, 40, 67, 68, 74, 75, 83, 84, 104, 105, 111, 112, 120, 121, 129, 130,
-                134,
-            ],
+            b"Parameter A : Prop. Lemma c : A -> A. Proof. intro h. exact h. Qed.",
+            &[0, 19, 20, 37, 38, 44, 45, 53, 54, 62, 63, 67],
             None,
         ),
         (

@@ -1,8 +1,7 @@
 //! Tokens of a sentence.
-ghost use Rattle.std.specs.Prelude.{◌≡◌, ◌↔◌, length, IsTrue};
 
 use crate::span::Span;
-use std::marker::Model;
+use base_core::Sequence;
 
 /// What a token is. The words are reserved, and never names.
 #[derive(Clone, Copy, Debug, PartialEq, Eq)]
@@ -59,54 +58,5 @@ pub struct Token {
     pub span: Span,
 }
 
-/// A list of tokens. Contracts see the list.
-#[derive(Debug, Drop)]
-pub struct Tokens {
-    tokens: Vec<Token>,
-}
-
-impl Model for Tokens {
-    ghost use Rattle.std.specs.Prelude.{List};
-    ghost use Rattle.vern_lex.specs.declared.token.Token.{Token};
-
-    ghost Value = { List Token };
-
-    ghost view = { λ t. t.tokens.items };
-}
-
-impl Tokens {
-    /// The same tokens in the same memory.
-    pub fn from_vec(tokens: Vec<Token>) -> Tokens
-        ensures { result ≡ tokens.items }
-    {
-        Tokens { tokens }
-    }
-
-    /// Gives the tokens back without taking memory.
-    pub fn into_vec(self) -> Vec<Token>
-        ensures { result.items ≡ self }
-    {
-        self.tokens
-    }
-
-    /// The tokens, in order.
-    pub fn as_slice(&self) -> &[Token]
-        ensures { result.now ≡ self.now }
-    {
-        self.tokens.as_slice()
-    }
-
-    /// How many tokens there are.
-    pub fn len(&self) -> usize
-        ensures { result ≡ length self.now }
-    {
-        self.tokens.len()
-    }
-
-    /// Whether there is none.
-    pub fn is_empty(&self) -> bool
-        ensures { IsTrue result ↔ (length self.now ≡ 0) }
-    {
-        self.tokens.is_empty()
-    }
-}
+/// A list of tokens.
+pub type Tokens = Sequence<Token>;

@@ -8,7 +8,8 @@ use Rattle.vern_parse.specs.declared.raw.Shape.{Shape as Shaped}
 use Rattle.vern_parse.specs.declared.raw.Shape.TheVariants as made
 use Rattle.vern_parse.specs.declared.fault.Stop.{Stop}
 use Rattle.vern_parse.specs.Meaning.{expression, shape}
-use Rattle.vern_parse.specs.Reading.{is_governed, expression_in, shape_in, EndsShape}
+use Rattle.vern_parse.specs.Answers.{is_governed, EndsShape}
+use Rattle.vern_sentence.specs.Slots.{expression_in, shape_in}
 use Rattle.vern_parse.proofs.Trees.{shape_Plain}
 
 pub chain_none : (t : Shape) (s : List Frame) → expression_in (chain t s) ≡ None
@@ -20,7 +21,8 @@ chain_none t (governor h ∷ s) = refl
 chain_none t (outline ∷ s) = refl
 chain_none t (link v ∷ s) = chain_none (tree.arrow v t) s
 
-pub whole_none : (v : Expression) (b : ℕ) (f : Frame) (s : List Frame) → is_governed (f ∷ s) ≡ false → expression_in (whole v b (f ∷ s)) ≡ None
+pub whole_none : (v : Expression) (b : ℕ) (f : Frame) (s : List Frame) → is_governed (f ∷ s) ≡ false
+    → expression_in (whole v b (f ∷ s)) ≡ None
 unfolding whole
 whole_none v b (parenthesis f) s h = chain_none (plain v) (parenthesis f ∷ s)
 whole_none v b (argument x ys) s h = chain_none (plain v) (argument x ys ∷ s)
@@ -45,8 +47,10 @@ pub ruleset expressions = (whole_none, whole_last)
 
 pub ruleset no_expression = (chain_none)
 
-pub ends_shape : (r : Result Shaped Stop) (p : Option Phrase) (v : RawExpr) (to : ℕ) (s : List Frame) → p ≡ whole (expression v) to s → is_governed s ≡ false →
+pub ends_shape : (r : Result Shaped Stop) (p : Option Phrase) (v : RawExpr) (to : ℕ) (s : List Frame) → p ≡ whole (expression v) to s
+    → is_governed s ≡ false →
     EndsShape r (shape_in (chain (shape (made.Plain v)) s)) → EndsShape r (shape_in p)
 ends_shape r p v to s h g q =
-    let e : shape_in p ≡ shape_in (chain (shape (made.Plain v)) s) = ap shape_in h ∙ whole_shape (expression v) to s g ∙ ap (λ t. shape_in (chain t s)) (sym (shape_Plain v)) in
+    let e : shape_in p ≡ shape_in (chain (shape (made.Plain v)) s) = ap shape_in h ∙ whole_shape (expression v) to s g
+    ∙ ap (λ t. shape_in (chain t s)) (sym (shape_Plain v)) in
     subst (EndsShape r) (sym e) q

@@ -1,5 +1,6 @@
 -- What reading a sentence from left to right says of the grammar.
-use Rattle.std.proofs.Common.{◌≡◌, ℕ, zero, suc, List, [], ◌∷◌, drop, Some, None, Result, Ok, Err, IfOk, IfErr, All, refl, sym, ap, subst, ◌∙◌}
+use Rattle.std.proofs.Common.{◌≡◌, ℕ, zero, suc, List, [], ◌∷◌, drop, Some, None, Result, Ok, Err, IfOk, IfErr, All, refl, sym, ap, subst}
+use Rattle.std.proofs.Common.{◌∙◌}
 use Rattle.vern_lex.specs.declared.token.Token.{Token}
 use Rattle.vern_lex.specs.Tokens.{tokens_of}
 use Rattle.vern_grammar.specs.Kinds.{Lexeme, lexemes}
@@ -15,15 +16,16 @@ use Rattle.vern_parse.specs.declared.raw.Raw.{Raw}
 use Rattle.vern_parse.specs.declared.fault.ParseFault.{ParseFault}
 use Rattle.vern_parse.specs.declared.fault.ParseFault.TheVariants as fault
 use Rattle.vern_parse.specs.Sentences.{sentence}
-use Rattle.vern_parse.specs.Reading.{IsFaultOf, IsRead, IsRefused, offset}
-use Rattle.vern_parse.specs.Walks.{Walked, Gives, place, refused, walked_sentence}
+use Rattle.vern_parse.specs.Answers.{IsFaultOf, IsRead, IsRefused, offset}
+use Rattle.vern_parse.specs.Sources.{Wanted, Gives, first_offset, refused}
+use Rattle.vern_parse.specs.Walks.{walked_sentence}
 use Rattle.vern_parse.proofs.Walked.{sentence_walks}
 
-offset_place : (text : List ℕ) (tokens : List Token) (i : ℕ) → offset text tokens i ≡ place text (drop i (lexemes text tokens))
-offset_place text [] zero = refl
-offset_place text [] (suc i) = refl
-offset_place text (t ∷ ts) zero = refl
-offset_place text (t ∷ ts) (suc i) = offset_place text ts i
+offset_is_first : (text : List ℕ) (tokens : List Token) (i : ℕ) → offset text tokens i ≡ first_offset text (drop i (lexemes text tokens))
+offset_is_first text [] zero = refl
+offset_is_first text [] (suc i) = refl
+offset_is_first text (t ∷ ts) zero = refl
+offset_is_first text (t ∷ ts) (suc i) = offset_is_first text ts i
 
 some_out : (a b : ℕ) → Some a ≡ Some b → a ≡ b
 some_out a b e = cc
@@ -31,10 +33,10 @@ some_out a b e = cc
 none_some : (a : ℕ) → None ≡ Some a → ⊥
 none_some a e = cc
 
-err_ok : (m : Walked Sentence) (ks : List Lexeme) (t : Sentence) → m ≡ Err ks → m ≡ Ok t → ⊥
+err_ok : (m : Wanted Sentence) (ks : List Lexeme) (t : Sentence) → m ≡ Err ks → m ≡ Ok t → ⊥
 err_ok m ks t e f = cc
 
-ok_out : (m : Walked Sentence) (t u : Sentence) → m ≡ Ok t → m ≡ Ok u → t ≡ u
+ok_out : (m : Wanted Sentence) (t u : Sentence) → m ≡ Ok t → m ≡ Ok u → t ≡ u
 ok_out m t u e f = cc
 
 module _ (text : List ℕ) (tokens : List Token) where
@@ -42,22 +44,24 @@ module _ (text : List ℕ) (tokens : List Token) where
   all = lexemes text tokens
 
   abbrev Given : Result Raw ParseFault → Type 0
-  Given r = Gives sentence text r (walked_sentence text all)
+  Given r = Gives sentence (tokens, text) r (walked_sentence text all)
 
   parsed : (r : Raw) → walked_sentence text all ≡ Ok (sentence r) → IsSentence text all (sentence r)
   parsed r e = given text all (sentence r) (sentence_walks text all ∙ e)
 
-  faulted_at : (p : ℕ) (m : Walked Sentence) → walked_sentence text all ≡ m → refused text m ≡ Some p → (i : ℕ) × IsFault (IsSentence text) all i × (p ≡ offset text tokens i)
+  faulted_at : (p : ℕ) (m : Wanted Sentence) → walked_sentence text all ≡ m → refused text m ≡ Some p
+      → (i : ℕ) × IsFault (IsSentence text) all i × (p ≡ offset text tokens i)
   faulted_at p (Ok t) e h = absurd (none_some p h)
   faulted_at p (Err rest) e h =
       let (i, f, q) = faulty text all rest (sentence_walks text all ∙ e) in
-      (i, f, sym (some_out (place text rest) p h) ∙ ap (place text) q ∙ sym (offset_place text tokens i))
+      (i, f, sym (some_out (first_offset text rest) p h) ∙ ap (first_offset text) q ∙ sym (offset_is_first text tokens i))
 
   pub tree : (r : Result Raw ParseFault) → Given r → IfOk r (λ t. IsSentence text all (sentence t))
   tree (Ok r) e = parsed r e
   tree (Err f) e = tt
 
-  pub free : (r : Result Raw ParseFault) → Given r → tokens ≡ tokens_of text → IfOk r (λ t. All (λ x. IsFreeName x.text) (names_of_sentence (sentence t)))
+  pub free : (r : Result Raw ParseFault) → Given r → tokens ≡ tokens_of text
+      → IfOk r (λ t. All (λ x. IsFreeName x.text) (names_of_sentence (sentence t)))
   free (Ok r) e h = free_names text (sentence r) (subst (λ l. IsSentence text (lexemes text l) (sentence r)) h (parsed r e))
   free (Err f) e h = tt
 
@@ -66,7 +70,8 @@ module _ (text : List ℕ) (tokens : List Token) where
   fault_is (Err (fault.At p)) e = faulted_at p (walked_sentence text all) refl e
   fault_is (Err fault.NoMemory) e = tt
 
-  read_by : (p : ℕ) (t : Sentence) (m : Walked Sentence) → walked_sentence text all ≡ m → refused text m ≡ Some p → IsSentence text all t → ⊥
+  read_by : (p : ℕ) (t : Sentence) (m : Wanted Sentence) → walked_sentence text all ≡ m → refused text m ≡ Some p → IsSentence text all t
+      → ⊥
   read_by p t (Ok u) e h w = none_some p h
   read_by p t (Err rest) e h w = err_ok (sentence_reading text all) rest t (sentence_walks text all ∙ e) (accepted text all t w)
 

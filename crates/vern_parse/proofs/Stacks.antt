@@ -1,6 +1,6 @@
 -- The newest frame stands last in memory.
 use Rattle.std.proofs.Common.{◌≡◌, suc, ◌-◌, List, [], ◌∷◌, ◌++◌, length, refl, sym, ap, ◌∙◌, arith, slice_get}
-use Rattle.vern_parse.specs.Reading.{stacked, first}
+use Rattle.vern_parse.specs.Answers.{stacked, first}
 
 pub stacked-append : {A : Type 0} (fs : List A) (f : A) → stacked (fs ++ (f ∷ [])) ≡ f ∷ stacked fs
 stacked-append [] f = refl

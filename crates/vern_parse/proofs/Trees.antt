@@ -24,17 +24,22 @@ expression_True c = ap expression (sym (made.rolls-True c)) ∙ fold-roll-RawExp
 pub expression_False : (c : Span) → expression (made.False c) ≡ tree.constant false c
 expression_False c = ap expression (sym (made.rolls-False c)) ∙ fold-roll-RawExpr Expression expression_step (layer.False c)
 
-pub expression_App : (x : RawName) (ys : Vec RawExpr Global) (c : Span) → expression (made.App x ys c) ≡ tree.application (name x) (expressions (map expression ys.items)) c
+pub expression_App : (x : RawName) (ys : Vec RawExpr Global) (c : Span)
+    → expression (made.App x ys c) ≡ tree.application (name x) (expressions (map expression ys.items)) c
 expression_App x ys c = ap expression (sym (made.rolls-App x ys c)) ∙ fold-roll-RawExpr Expression expression_step (layer.App x ys c)
 
-pub expression_Binary : (op : RawOp) (a b : Box RawExpr Global) (c : Span) → expression (made.Binary op a b c) ≡ tree.binary (operator op) (expression a.value) (expression b.value) c
-expression_Binary op a b c = ap expression (sym (made.rolls-Binary op a b c)) ∙ fold-roll-RawExpr Expression expression_step (layer.Binary op a b c)
+pub expression_Binary : (op : RawOp) (a b : Box RawExpr Global) (c : Span)
+    → expression (made.Binary op a b c) ≡ tree.binary (operator op) (expression a.value) (expression b.value) c
+expression_Binary op a b c = ap expression (sym (made.rolls-Binary op a b c))
+    ∙ fold-roll-RawExpr Expression expression_step (layer.Binary op a b c)
 
 pub expression_Not : (a : Box RawExpr Global) (c : Span) → expression (made.Not a c) ≡ tree.negation (expression a.value) c
 expression_Not a c = ap expression (sym (made.rolls-Not a c)) ∙ fold-roll-RawExpr Expression expression_step (layer.Not a c)
 
-pub expression_Quant : (q : Bool) (gs : Vec RawGroup Global) (a : Box RawExpr Global) (c : Span) → expression (made.Quant q gs a c) ≡ tree.quantified q (map group gs.items) (expression a.value) c
-expression_Quant q gs a c = ap expression (sym (made.rolls-Quant q gs a c)) ∙ fold-roll-RawExpr Expression expression_step (layer.Quant q gs a c)
+pub expression_Quant : (q : Bool) (gs : Vec RawGroup Global) (a : Box RawExpr Global) (c : Span)
+    → expression (made.Quant q gs a c) ≡ tree.quantified q (map group gs.items) (expression a.value) c
+expression_Quant q gs a c = ap expression (sym (made.rolls-Quant q gs a c))
+    ∙ fold-roll-RawExpr Expression expression_step (layer.Quant q gs a c)
 
 pub shape_Set : (c : Span) → shape (shaped.Set c) ≡ tree.set c
 shape_Set c = ap shape (sym (shaped.rolls-Set c)) ∙ fold-roll-Shape tree.Shape shape_step (shape_layer.Set c)

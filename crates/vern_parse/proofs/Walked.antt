@@ -1,18 +1,23 @@
 -- Reading from left to right gives what the patterns give.
-use Rattle.std.proofs.Common.{◌≡◌, ℕ, Bool, true, false, not, cond, List, [], ◌∷◌, Option, Some, None, Ok, Err, if◌then◌else◌, refl, sym, ap, ◌∙◌}
+use Rattle.std.proofs.Common.{◌≡◌, ℕ, Bool, true, false, not, cond, List, [], ◌∷◌, Option, Some, None, Ok, Err, if◌then◌else◌, refl, sym}
+use Rattle.std.proofs.Common.{ap, ◌∙◌}
 use Rattle.vern_lex.specs.declared.span.Span.{Span}
 use Rattle.vern_lex.specs.declared.token.TokenKind.{TokenKind}
 use Rattle.vern_grammar.specs.Trees.{Name, Expression, Shape}
 use Rattle.vern_grammar.specs.Kinds.{Kind, Lexeme}
 use Rattle.vern_grammar.specs.Kinds as kind
-use Rattle.vern_grammar.specs.Machine.{State, at, Mode, want, applying, after, ended, in_names, names_sort, names_end, in_group, group_sort, group_end, in_groups, Frame, parenthesis, outline, step, on, ends}
+use Rattle.vern_grammar.specs.Machine.{State, at, Mode, want, applying, after, ended, in_names, names_sort, names_end, in_group, group_sort}
+use Rattle.vern_grammar.specs.Machine.{group_end, in_groups, Frame, parenthesis, outline, step, on, ends}
 use Rattle.vern_sentence.specs.Trees.{Sentence}
 use Rattle.vern_sentence.specs.Words.{Word, Sign, is_sign, full_stop, as_word, word_of}
 use Rattle.vern_sentence.specs.Words as word
-use Rattle.vern_sentence.specs.Slots.{Slot, expression, enclosed, shape, evidence, names, groups, Tree, Place, tree_at, cut, between, whole_groups, is_simple, is_closed, operand_in, expression_in, shape_in}
-use Rattle.vern_sentence.specs.Patterns.{Pattern, done, fixed, name, slot, option, and_then, sign_front, name_front, part_at, reading}
+use Rattle.vern_sentence.specs.Slots.{Slot, expression, enclosed, shape, evidence, names, groups, Tree, Place, tree_at, cut, between}
+use Rattle.vern_sentence.specs.Slots.{whole_groups, is_simple, is_closed, operand_in, expression_in, shape_in}
+use Rattle.vern_sentence.specs.Patterns.{Pattern, done, fixed, name, slot, option, sign_front, name_front, part_at, reading}
+use Rattle.base_core.specs.Answers.{and_then}
 use Rattle.vern_sentence.specs.Reading.{following, behind_word, sentence_reading}
-use Rattle.vern_parse.specs.Walks.{Walked, is_other, ran, walked, walked_word, walked_sentence}
+use Rattle.vern_parse.specs.Sources.{Wanted}
+use Rattle.vern_parse.specs.Walks.{is_other, ran, walked, walked_word, walked_sentence}
 
 none_some : {A : Type 0} (x : A) → None ≡ Some x → ⊥
 none_some x e = cc
@@ -113,10 +118,12 @@ no_as kind.prop e = refl
 
 end_refuses : (p : Pattern) (k : Lexeme) (ks : List Lexeme) → is_other k.kind ≡ false → reading (fixed full_stop p) (k ∷ ks) ≡ Err (k ∷ ks)
 end_refuses p k ks h =
-    let F : Bool → Walked Sentence = λ b. and_then (let m : Walked (List Lexeme) = if b then Ok ks else Err (k ∷ ks) in m) (λ us. reading p us) in
+    let F : Bool → Wanted Sentence = λ b. and_then (let m : Wanted (List Lexeme) = if b then Ok ks else Err (k ∷ ks) in
+    m) (λ us. reading p us) in
     ap F (no_full_stop k.kind h)
 
-as_refuses : (p q : Pattern) (k : Lexeme) (ks : List Lexeme) → is_other k.kind ≡ false → reading (option as_word p (fixed full_stop q)) (k ∷ ks) ≡ Err (k ∷ ks)
+as_refuses : (p q : Pattern) (k : Lexeme) (ks : List Lexeme) → is_other k.kind ≡ false
+    → reading (option as_word p (fixed full_stop q)) (k ∷ ks) ≡ Err (k ∷ ks)
 as_refuses p q k ks h = ap (λ b. if b then reading p ks else reading (fixed full_stop q) (k ∷ ks)) (no_as k.kind h) ∙ end_refuses q k ks h
 
 end_expression : (p : Pattern) → Refuses expression (fixed full_stop p)
@@ -176,49 +183,54 @@ Sound p = (ks : List Lexeme) → reading p ks ≡ walked p ks
 
 module _ (i : Slot) (f : Tree i → Pattern) where
   -- what is read behind a part
-  abbrev reads : Option (Tree i) → List Lexeme → Walked Sentence
+  abbrev reads : Option (Tree i) → List Lexeme → Wanted Sentence
   reads m ks = and_then (part_at i ks m) (λ w. reading (f w.0) w.1)
 
-  abbrev behind : Walked (Tree i × List Lexeme) → Walked Sentence
+  abbrev behind : Wanted (Tree i × List Lexeme) → Wanted Sentence
   behind m = and_then m (λ r. walked (f r.0) r.1)
 
   both : ((x : Tree i) → Sound (f x)) → (m : Option (Tree i)) (ks : List Lexeme) → reads m ks ≡ behind (part_at i ks m)
   both sound None ks = refl
   both sound (Some x) ks = sound x ks
 
-  refused : (m : Option (Tree i)) (k : Lexeme) (ks : List Lexeme) → ((x : Tree i) → reading (f x) (k ∷ ks) ≡ Err (k ∷ ks)) → reads m (k ∷ ks) ≡ Err (k ∷ ks)
+  refused : (m : Option (Tree i)) (k : Lexeme) (ks : List Lexeme) → ((x : Tree i) → reading (f x) (k ∷ ks) ≡ Err (k ∷ ks))
+      → reads m (k ∷ ks) ≡ Err (k ∷ ks)
   refused None k ks h = refl
   refused (Some x) k ks h = h x
 
-abbrev of_cut : (i : Slot) (f : Tree i → Pattern) → Place i × List Lexeme → Walked Sentence
+abbrev of_cut : (i : Slot) (f : Tree i → Pattern) → Place i × List Lexeme → Wanted Sentence
 of_cut i f w = reads i f (tree_at i w.0) w.1
 
 module _ (f : Expression → Pattern) (sound : (x : Expression) → Sound (f x)) where
   abbrev tree : State → Option Expression
   tree s = expression_in (ends (Some s))
 
-  abbrev found : Walked (State × List Lexeme) → Walked Sentence
+  abbrev found : Wanted (State × List Lexeme) → Wanted Sentence
   found m = and_then (and_then {Y = Expression × List Lexeme} m (λ r. part_at expression r.1 (tree r.0))) (λ r. walked (f r.0) r.1)
 
-  expression_walks : ((x : Expression) → Refuses expression (f x)) → (ks : List Lexeme) (s : State) → of_cut expression f (cut expression s ks) ≡ found (ran expression s ks)
+  expression_walks : ((x : Expression) → Refuses expression (f x)) → (ks : List Lexeme) (s : State)
+      → of_cut expression f (cut expression s ks) ≡ found (ran expression s ks)
   expression_walks refuses [] s = both expression f sound (tree s) []
   expression_walks refuses (k ∷ ks) s = by_stop (is_other k.kind) refl (step s k) refl (λ z. expression_walks refuses ks z)
     where
       by_stop : (b : Bool) → is_other k.kind ≡ b → (m : Option State) → step s k ≡ m →
           ((z : State) → of_cut expression f (cut expression z ks) ≡ found (ran expression z ks)) →
-          of_cut expression f (elim m [ None ↦ (s, k ∷ ks) | Some z ↦ cut expression z ks ]) ≡ found (cond b (Ok (s, k ∷ ks)) (elim m [ None ↦ Err (k ∷ ks) | Some z ↦ ran expression z ks ]))
+          of_cut expression f (elim m [ None ↦ (s, k ∷ ks) | Some z ↦ cut expression z ks ])
+          ≡ found (cond b (Ok (s, k ∷ ks)) (elim m [ None ↦ Err (k ∷ ks) | Some z ↦ ran expression z ks ]))
       by_stop true h None e g = both expression f sound (tree s) (k ∷ ks)
       by_stop true h (Some z) e g = absurd (none_some z (sym (other_stops s k h) ∙ e))
       by_stop false h None e g = refused expression f (tree s) k ks (λ x. (refuses x).at_token k ks h)
       by_stop false h (Some z) e g = g z
 
-  evidence_walks : ((x : Expression) → Refuses evidence (f x)) → (ks : List Lexeme) (s : State) → of_cut evidence f (cut evidence s ks) ≡ found (ran evidence s ks)
+  evidence_walks : ((x : Expression) → Refuses evidence (f x)) → (ks : List Lexeme) (s : State)
+      → of_cut evidence f (cut evidence s ks) ≡ found (ran evidence s ks)
   evidence_walks refuses [] s = both evidence f sound (tree s) []
   evidence_walks refuses (k ∷ ks) s = by_stop (is_simple k.kind) refl (step s k) (λ z. evidence_walks refuses ks z)
     where
       by_stop : (b : Bool) → is_simple k.kind ≡ b → (m : Option State) →
           ((z : State) → of_cut evidence f (cut evidence z ks) ≡ found (ran evidence z ks)) →
-          of_cut evidence f (elim (cond b m None) [ None ↦ (s, k ∷ ks) | Some z ↦ cut evidence z ks ]) ≡ found (cond (not b) (Ok (s, k ∷ ks)) (elim m [ None ↦ Err (k ∷ ks) | Some z ↦ ran evidence z ks ]))
+          of_cut evidence f (elim (cond b m None) [ None ↦ (s, k ∷ ks) | Some z ↦ cut evidence z ks ])
+          ≡ found (cond (not b) (Ok (s, k ∷ ks)) (elim m [ None ↦ Err (k ∷ ks) | Some z ↦ ran evidence z ks ]))
       by_stop false h m g = both evidence f sound (tree s) (k ∷ ks)
       by_stop true h None g = refused evidence f (tree s) k ks (λ x. (refuses x).at_token k ks (ap not h))
       by_stop true h (Some z) g = g z
@@ -226,7 +238,7 @@ module _ (f : Expression → Pattern) (sound : (x : Expression) → Sound (f x))
   abbrev inner : State → Option Expression
   inner s = operand_in s.mode s.stack
 
-  abbrev shut : Walked (State × List Lexeme) → Walked Sentence
+  abbrev shut : Wanted (State × List Lexeme) → Wanted Sentence
   shut m = and_then (and_then {Y = Expression × List Lexeme} m (λ r. part_at enclosed r.1 (inner r.0))) (λ r. walked (f r.0) r.1)
 
   still_open : (m : Mode) (s : List Frame) → is_closed s ≡ false → operand_in m s ≡ None
@@ -259,7 +271,8 @@ module _ (f : Expression → Pattern) (sound : (x : Expression) → Sound (f x))
     where
       by_stop : (b : Bool) → is_closed s.stack ≡ b → (m : Option State) →
           ((z : State) → of_cut enclosed f (cut enclosed z ks) ≡ shut (ran enclosed z ks)) →
-          of_cut enclosed f (elim (cond b None m) [ None ↦ (s, k ∷ ks) | Some z ↦ cut enclosed z ks ]) ≡ shut (cond b (Ok (s, k ∷ ks)) (elim m [ None ↦ Err (k ∷ ks) | Some z ↦ ran enclosed z ks ]))
+          of_cut enclosed f (elim (cond b None m) [ None ↦ (s, k ∷ ks) | Some z ↦ cut enclosed z ks ])
+          ≡ shut (cond b (Ok (s, k ∷ ks)) (elim m [ None ↦ Err (k ∷ ks) | Some z ↦ ran enclosed z ks ]))
       by_stop true h m g = both enclosed f sound (inner s) (k ∷ ks)
       by_stop false h None g = ap (λ m. reads enclosed f m (k ∷ ks)) (still_open s.mode s.stack h)
       by_stop false h (Some z) g = g z
@@ -268,7 +281,7 @@ module _ (f : Shape → Pattern) (sound : (x : Shape) → Sound (f x)) (refuses 
   abbrev outline_of : State → Option Shape
   outline_of s = shape_in (ends (Some s))
 
-  abbrev shaped : Walked (State × List Lexeme) → Walked Sentence
+  abbrev shaped : Wanted (State × List Lexeme) → Wanted Sentence
   shaped m = and_then (and_then {Y = Shape × List Lexeme} m (λ r. part_at shape r.1 (outline_of r.0))) (λ r. walked (f r.0) r.1)
 
   shape_walks : (ks : List Lexeme) (s : State) → of_cut shape f (cut shape s ks) ≡ shaped (ran shape s ks)
@@ -277,7 +290,8 @@ module _ (f : Shape → Pattern) (sound : (x : Shape) → Sound (f x)) (refuses 
     where
       by_stop : (b : Bool) → is_other k.kind ≡ b → (m : Option State) → step s k ≡ m →
           ((z : State) → of_cut shape f (cut shape z ks) ≡ shaped (ran shape z ks)) →
-          of_cut shape f (elim m [ None ↦ (s, k ∷ ks) | Some z ↦ cut shape z ks ]) ≡ shaped (cond b (Ok (s, k ∷ ks)) (elim m [ None ↦ Err (k ∷ ks) | Some z ↦ ran shape z ks ]))
+          of_cut shape f (elim m [ None ↦ (s, k ∷ ks) | Some z ↦ cut shape z ks ])
+          ≡ shaped (cond b (Ok (s, k ∷ ks)) (elim m [ None ↦ Err (k ∷ ks) | Some z ↦ ran shape z ks ]))
       by_stop true h None e g = both shape f sound (outline_of s) (k ∷ ks)
       by_stop true h (Some z) e g = absurd (none_some z (sym (other_stops s k h) ∙ e))
       by_stop false h None e g = refused shape f (outline_of s) k ks (λ x. (refuses x).at_token k ks h)
@@ -297,12 +311,13 @@ walks : (p : Pattern) → Good p → Sound p
 walks (done t) g ks = refl
 walks (fixed s p) g ks = by_sign (sign_front s ks) (walks p g)
   where
-    by_sign : (m : Walked (List Lexeme)) → Sound p → and_then m (λ us. reading p us) ≡ and_then m (λ us. walked p us)
+    by_sign : (m : Wanted (List Lexeme)) → Sound p → and_then m (λ us. reading p us) ≡ and_then m (λ us. walked p us)
     by_sign (Ok us) h = h us
     by_sign (Err us) h = refl
 walks (name f) g ks = by_name (name_front ks) (λ x. walks (f x) (g x))
   where
-    by_name : (m : Walked (Name × List Lexeme)) → ((x : Name) → Sound (f x)) → and_then m (λ w. reading (f w.0) w.1) ≡ and_then m (λ w. walked (f w.0) w.1)
+    by_name : (m : Wanted (Name × List Lexeme)) → ((x : Name) → Sound (f x))
+        → and_then m (λ w. reading (f w.0) w.1) ≡ and_then m (λ w. walked (f w.0) w.1)
     by_name (Ok (x, us)) h = h x us
     by_name (Err us) h = refl
 walks (slot i f) g ks = part_walks i f (λ x. walks (f x) (g x).0) (λ x. (g x).1) ks
@@ -310,7 +325,8 @@ walks (option s p q) g [] = walks q g.1 []
 walks (option s p q) g (k ∷ ks) = by_sign (is_sign s k.kind) (walks p g.0 ks) (walks q g.1 (k ∷ ks))
   where
     by_sign : (b : Bool) → reading p ks ≡ walked p ks → reading q (k ∷ ks) ≡ walked q (k ∷ ks) →
-        (let m : Walked (List Lexeme) = if b then Ok ks else Err (k ∷ ks) in (if b then reading p ks else reading q (k ∷ ks)) ≡ elim m [ Ok us ↦ walked p us | Err us ↦ walked q (k ∷ ks) ])
+        (let m : Wanted (List Lexeme) = if b then Ok ks else Err (k ∷ ks) in
+        (if b then reading p ks else reading q (k ∷ ks)) ≡ elim m [ Ok us ↦ walked p us | Err us ↦ walked q (k ∷ ks) ])
     by_sign true h e = h
     by_sign false h e = e
 

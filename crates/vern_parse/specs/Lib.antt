@@ -1,4 +1,5 @@
+pub mod Answers
 pub mod Meaning
-pub mod Reading
 pub mod Sentences
+pub mod Sources
 pub mod Walks

@@ -1,6 +1,7 @@
 -- What the Rust values stand for: the data types of the grammar.
 use Rattle.std.specs.Prelude.{true, false, List, map}
-use Rattle.vern_grammar.specs.Trees.{Operator, implication, equivalence, disjunction, conjunction, equation, inequation, Name, Group, Expression, expressions}
+use Rattle.vern_grammar.specs.Trees.{Operator, implication, equivalence, disjunction, conjunction, equation, inequation, Name, Group}
+use Rattle.vern_grammar.specs.Trees.{Expression, expressions}
 use Rattle.vern_grammar.specs.Trees as tree
 use Rattle.vern_grammar.specs.Kinds as kinds
 use Rattle.vern_grammar.specs.Grammar as grammar
@@ -21,18 +22,22 @@ use Rattle.vern_parse.specs.declared.frames.Head.TheVariants.{Operator as Operat
 use Rattle.vern_parse.specs.declared.frames.Frame.{Frame}
 use Rattle.vern_parse.specs.declared.frames.Frame.TheVariants.{Parenthesis, Argument, Governor, Outline, Link}
 use Rattle.vern_parse.specs.declared.frames.Mode.{Mode}
-use Rattle.vern_parse.specs.declared.frames.Mode.TheVariants.{Want, Applying, After, Ended, InNames, NamesSort, NamesEnd, InGroup, GroupSort, GroupEnd, InGroups}
+use Rattle.vern_parse.specs.declared.frames.Mode.TheVariants.{Want, Applying, After, Ended, InNames, NamesSort, NamesEnd, InGroup}
+use Rattle.vern_parse.specs.declared.frames.Mode.TheVariants.{GroupSort, GroupEnd, InGroups}
 use Rattle.vern_parse.specs.declared.kind.Kind.{Kind}
 use Rattle.vern_parse.specs.declared.kind.Kind.TheVariants as kinded
 
 -- ---- trees
 
+-- a name
 abbrev pub name : RawName → Name
 name x = record { text = x.text; span = x.span }
 
+-- a group
 abbrev pub group : RawGroup → Group
 group g = record { names = map name g.names.items; sort = name g.sort }
 
+-- an operator
 abbrev pub operator : RawOp → Operator
 operator Imp = implication
 operator Iff = equivalence
@@ -41,6 +46,7 @@ operator And = conjunction
 operator Eq = equation
 operator Ne = inequation
 
+-- an expression whose parts are known
 abbrev pub expression_step : RawExpr-F Expression → Expression
 expression_step (True c) = tree.constant true c
 expression_step (False c) = tree.constant false c
@@ -49,20 +55,24 @@ expression_step (Binary op a b c) = tree.binary (operator op) a.value b.value c
 expression_step (Not a c) = tree.negation a.value c
 expression_step (Quant q gs a c) = tree.quantified q (map group gs.items) a.value c
 
+-- an expression
 abbrev pub expression : RawExpr → Expression
 expression = fold-RawExpr Expression expression_step
 
+-- a shape whose rest is known
 abbrev pub shape_step : Shape-F tree.Shape → tree.Shape
 shape_step (Set c) = tree.set c
 shape_step (Prop c) = tree.prop c
 shape_step (Arrow a s) = tree.arrow (expression a) s.value
 shape_step (Plain a) = tree.plain (expression a)
 
+-- a shape
 abbrev pub shape : Shape → tree.Shape
 shape = fold-Shape tree.Shape shape_step
 
 -- ---- tokens
 
+-- a kind of token
 abbrev pub kind : Kind → kinds.Kind
 kind (kinded.Name x) = kinds.name x
 kind (kinded.Constant b) = kinds.constant b
@@ -79,14 +89,17 @@ kind (kinded.Other k) = kinds.other k
 
 -- ---- the machine
 
+-- a quantifier as far as it was read
 abbrev pub binder : Binder → grammar.Binder
 binder b = grammar.binder b.all b.from (map group b.groups.items) b.bound
 
+-- what governs an operand
 abbrev pub head : Head → grammar.Head
 head (Operator' op a from) = grammar.operator (operator op) (expression a) from
 head (Tilde from) = grammar.tilde from
 head (Quantifier b) = grammar.quantifier (binder b)
 
+-- what waits for its end
 abbrev pub frame : Frame → machine.Frame
 frame (Parenthesis from) = machine.parenthesis from
 frame (Argument x ys) = machine.argument (name x) (map expression ys.items)
@@ -94,6 +107,7 @@ frame (Governor h) = machine.governor (head h)
 frame Outline = machine.outline
 frame (Link a) = machine.link (expression a)
 
+-- what the tokens behind the newest frame are
 abbrev pub mode : Mode → machine.Mode
 mode Want = machine.want
 mode (Applying x ys to) = machine.applying (name x) (map expression ys.items) to

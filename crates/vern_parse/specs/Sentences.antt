@@ -4,6 +4,8 @@ use Rattle.vern_grammar.specs.Trees.{Name, Group}
 use Rattle.vern_sentence.specs.Trees as made
 use Rattle.vern_sentence.specs.Words as word
 use Rattle.vern_sentence.specs.Slots as slots
+use Rattle.vern_parse.specs.declared.slot.Part.{Part}
+use Rattle.vern_parse.specs.declared.slot.Part.TheVariants as part
 use Rattle.vern_parse.specs.declared.raw.RawName.{RawName}
 use Rattle.vern_parse.specs.declared.raw.Raw.{Raw}
 use Rattle.vern_parse.specs.declared.raw.Raw.TheVariants.{Declare, Define, Begin, ProofWord, Refinement, Bullet, BraceIn, BraceOut, Close}
@@ -11,8 +13,6 @@ use Rattle.vern_parse.specs.declared.raw.RawTac.{RawTac}
 use Rattle.vern_parse.specs.declared.raw.RawTac.TheVariants as tactic
 use Rattle.vern_parse.specs.declared.raw.Closer.{Closer}
 use Rattle.vern_parse.specs.declared.raw.Closer.TheVariants as closer
-use Rattle.vern_parse.specs.declared.slot.Part.{Part}
-use Rattle.vern_parse.specs.declared.slot.Part.TheVariants as part
 use Rattle.vern_parse.specs.declared.words.Command.{Command}
 use Rattle.vern_parse.specs.declared.words.Command.TheVariants as command
 use Rattle.vern_parse.specs.declared.words.Tactic.{Tactic}
@@ -25,22 +25,27 @@ use Rattle.vern_parse.specs.Meaning.{name, group, expression, shape}
 
 -- ---- trees
 
+-- a name that there may be
 abbrev pub maybe_name : Option RawName → Option Name
 maybe_name None = None
 maybe_name (Some x) = Some (name x)
 
+-- names
 abbrev pub names_of : Vec RawName → List Name
 names_of xs = map name xs.items
 
+-- groups
 abbrev pub groups_of : Vec RawGroup → List Group
 groups_of gs = map group gs.items
 
+-- how a proof is closed
 abbrev pub closing : Closer → made.Closer
 closing closer.Qed = made.qed
 closing closer.Defined = made.defined
 closing closer.Admitted = made.admitted
 closing closer.Abort = made.abort
 
+-- a refinement
 abbrev pub refinement : RawTac → made.Refinement
 refinement (tactic.Intro x) = made.intro (maybe_name x)
 refinement (tactic.Intros xs) = made.intros (names_of xs)
@@ -62,6 +67,7 @@ refinement tactic.Symmetry = made.symmetry
 refinement (tactic.Rewrite t back) = made.rewrite (expression t) back
 refinement (tactic.Unfold x place) = made.unfold_in (name x) (maybe_name place)
 
+-- a sentence
 abbrev pub sentence : Raw → made.Sentence
 sentence (Declare x s) = made.declare (name x) (shape s)
 sentence (Define x gs sort t) = made.define (name x) (groups_of gs) (maybe_name sort) (expression t)
@@ -75,6 +81,7 @@ sentence (Close c) = made.close (closing c)
 
 -- ---- what the code tells apart
 
+-- the word that begins a sentence
 abbrev pub command_word : Command → word.Word
 command_word command.Parameter = word.parameter
 command_word command.Axiom = word.axiom_word
@@ -87,6 +94,7 @@ command_word command.Defined = word.defined
 command_word command.Admitted = word.admitted
 command_word command.Abort = word.abort
 
+-- the word that begins a refinement
 abbrev pub tactic_word : Tactic → word.Word
 tactic_word tactics.Intro = word.intro
 tactic_word tactics.Intros = word.intros
@@ -105,6 +113,7 @@ tactic_word tactics.Symmetry = word.symmetry
 tactic_word tactics.Rewrite = word.rewrite
 tactic_word tactics.Unfold = word.unfold_word
 
+-- a sign
 abbrev pub sign_of : Sign → word.Sign
 sign_of sign.FullStop = word.full_stop
 sign_of sign.Define = word.define
@@ -119,6 +128,7 @@ sign_of sign.Colon = word.colon
 sign_of sign.LeftParenthesis = word.opening
 sign_of sign.Prop = word.prop_word
 
+-- a part of a sentence
 abbrev pub part_slot : Part → slots.Slot
 part_slot part.Expression = slots.expression
 part_slot part.Enclosed = slots.enclosed

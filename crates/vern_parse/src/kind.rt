@@ -5,14 +5,14 @@ ghost use Rattle.vern_grammar.specs.Kinds.{kind_of, slice};
 ghost use Rattle.vern_parse.specs.Meaning.{kind};
 
 use crate::raw::RawOp;
-use base_core::{Bytes, NoMemory};
+use base_core::{NoMemory, SharedBytes};
 use std::alloc::Global;
 use vern_lex::{Span, Token, TokenKind};
 
 /// A token's kind, with the text of a name. The flag is true for `True` and for `forall`.
 #[derive(Drop)]
 pub enum Kind {
-    Name(Bytes),
+    Name(SharedBytes),
     Constant(bool),
     Sign(RawOp),
     Quantifier(bool),
@@ -57,12 +57,12 @@ impl Kind {
 }
 
 /// A copy of the bytes of a span.
-pub fn text(alloc: Global, span: Span, sentence: &[u8]) -> Result<Bytes, NoMemory>
+pub fn text(alloc: Global, span: Span, sentence: &[u8]) -> Result<SharedBytes, NoMemory>
     requires ordered { span.from ≤ span.to }
     requires within { span.to ≤ length sentence.now }
     ensures { IfOk result (λ bytes. bytes ≡ slice sentence.now span) }
 {
-    Bytes::from_slice(alloc, bytes_of(span, sentence))
+    SharedBytes::from_slice(alloc, bytes_of(span, sentence))
 }
 
 /// The bytes of a span.

@@ -14,7 +14,6 @@ mod frames;
 mod groups;
 mod kind;
 mod levels;
-mod pieces;
 mod raw;
 mod read;
 mod reduce;
@@ -23,6 +22,7 @@ mod sentence;
 #[cfg(test)]
 mod sentence_tests;
 mod slot;
+mod source;
 mod stack;
 mod step;
 #[cfg(test)]

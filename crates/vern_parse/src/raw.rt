@@ -1,12 +1,12 @@
 //! The trees of sentences.
 
-use base_core::Bytes;
+use base_core::SharedBytes;
 use vern_lex::Span;
 
-/// A name as it stands in a sentence.
+/// A name as it stands in a sentence. Its text can be shared without memory.
 #[derive(Drop)]
 pub struct RawName {
-    pub text: Bytes,
+    pub text: SharedBytes,
     pub span: Span,
 }
 

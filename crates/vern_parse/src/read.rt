@@ -5,7 +5,8 @@ ghost use Rattle.vern_grammar.specs.Grammar.{IsExpression, IsShape};
 ghost use Rattle.vern_grammar.specs.Kinds.{kind_of, lexemes, slice};
 ghost use Rattle.vern_grammar.specs.Machine.{at, on, outline, result as phrase, run, start};
 ghost use Rattle.vern_parse.specs.Meaning.{expression as expression_of, frames, kind as kind_in, mode as mode_of, shape as shape_of};
-ghost use Rattle.vern_parse.specs.Reading.{Bounded, EndsExpression, EndsShape, IsFaultOf, StopsAt, Takes, expression_in, shape_in};
+ghost use Rattle.vern_sentence.specs.Slots.{expression_in, shape_in};
+ghost use Rattle.vern_parse.specs.Answers.{Bounded, EndsExpression, EndsShape, IsFaultOf, StopsAt, Takes};
 
 use crate::fault::{ParseFault, Stop};
 use crate::frames::{Frame, Mode};
@@ -58,7 +59,8 @@ fn read(
     stack: &mut Stack,
 ) -> Result<Mode, ParseFault>
     requires { All (IsTokenOf sentence.now) tokens.now }
-    ensures state { IfOk result (λ m. run (start (frames stack.old)) (lexemes sentence.now tokens.now) ≡ Some (at (mode_of m) (frames stack.new))) }
+    ensures state { IfOk result (λ m. run (start (frames stack.old)) (lexemes sentence.now tokens.now)
+        ≡ Some (at (mode_of m) (frames stack.new))) }
     ensures fault { IfErr result (λ e. StopsAt (frames stack.old) sentence.now tokens.now e) }
 {
     let mut mode = Mode::Want;
@@ -78,7 +80,8 @@ fn take_token(
 ) -> Result<Mode, ParseFault>
     requires token { IsTokenOf sentence.now token }
     requires bounded { Bounded mode stack.old }
-    ensures exact { Takes result stack.new token (on (mode_of mode) (frames stack.old) (kind_of token.kind (slice sentence.now token.span)) token.span) }
+    ensures exact { Takes result stack.new token (on (mode_of mode) (frames stack.old)
+        (kind_of token.kind (slice sentence.now token.span)) token.span) }
     ensures bounded { IfOk result (λ m. Bounded m stack.new) }
 {
     let kind = Kind::of(alloc, token, sentence)?;

@@ -5,7 +5,8 @@ ghost use Rattle.vern_grammar.specs.Grammar.{operator as head_of};
 ghost use Rattle.vern_grammar.specs.Levels.{op_level};
 ghost use Rattle.vern_grammar.specs.Trees.{plain};
 ghost use Rattle.vern_parse.specs.Meaning.{expression, frame, frames, operator, shape};
-ghost use Rattle.vern_parse.specs.Reading.{Bounded, EndsExpression, EndsShape, Steps, expression_in, is_governed, shape_in, takes_first};
+ghost use Rattle.vern_sentence.specs.Slots.{expression_in, shape_in};
+ghost use Rattle.vern_parse.specs.Answers.{Bounded, EndsExpression, EndsShape, Steps, is_governed, takes_first};
 ghost use Rattle.vern_parse.specs.declared.frames.Frame.TheVariants.{Governor};
 
 use crate::fault::Stop;
@@ -59,7 +60,8 @@ fn shift(op: RawOp, fits: bool, value: RawExpr, from: u64, stack: &mut Stack) ->
 
 /// The frame of an operator with its left operand, where an operand of so high a level may stand.
 fn left_operand(op: RawOp, value: RawExpr, from: u64, room: u64) -> Frame
-    ensures { frame result ≡ (if nat_le (op_level (operator op)) room then governor (head_of (operator op) (expression value) from) else link (expression value)) }
+    ensures { frame result ≡ (if nat_le (op_level (operator op)) room then governor
+        (head_of (operator op) (expression value) from) else link (expression value)) }
 {
     if op.level() <= room {
         Frame::Governor(Head::Operator(op, value, from))

@@ -12,17 +12,18 @@ ghost use Rattle.vern_sentence.specs.Trees.{Sentence};
 ghost use Rattle.vern_sentence.specs.Reading.{declaring, defining, following, stating};
 ghost use Rattle.vern_sentence.specs.Names.{IsFreeName, names_of_sentence};
 ghost use Rattle.vern_parse.specs.Meaning.{name as name_of};
-ghost use Rattle.vern_parse.specs.Reading.{IsFaultOf, IsRead, IsRefused, offset};
+ghost use Rattle.vern_parse.specs.Answers.{IsFaultOf, IsRead, IsRefused, offset};
 ghost use Rattle.vern_parse.specs.Sentences.{command_word, groups_of, maybe_name, sentence as sentence_of};
-ghost use Rattle.vern_parse.specs.Walks.{Gives, no_span, rest, walked, walked_sentence, walked_word};
+ghost use Rattle.vern_parse.specs.Sources.{Gives, no_span, rest};
+ghost use Rattle.vern_parse.specs.Walks.{walked, walked_sentence, walked_word};
 
 use crate::fault::ParseFault;
 use crate::groups::groups_at;
 use crate::kind::bytes_of;
-use crate::pieces::{end, expect, fault_at, finish, name_at, own_token, skip};
 use crate::raw::{Closer, Raw, RawGroups, RawName};
 use crate::refine::{refinement_behind, witness};
 use crate::slot::{expression_at, shape_at};
+use crate::source::Source;
 use crate::words::{Command, Sign, command_of, tactic_of};
 use std::alloc::Global;
 use vern_lex::{Span, Token, TokenKind, Tokens, tokens_are_slices};
@@ -35,42 +36,36 @@ pub fn parse(alloc: Global, tokens: &Tokens, sentence: &[u8]) -> Result<Raw, Par
     ensures tree { IfOk result (λ r. IsSentence sentence.now (lexemes sentence.now tokens.now) (sentence_of r)) }
     ensures fault { IfErr result (λ e. IsFaultOf (IsSentence sentence.now) sentence.now tokens.now e) }
     ensures read { (t : Sentence) → IsSentence sentence.now (lexemes sentence.now tokens.now) t → IsRead sentence_of result t }
-    ensures refused { (p : ℕ) → IsFault (IsSentence sentence.now) (lexemes sentence.now tokens.now) p → IsRefused result (offset sentence.now tokens.now p) }
+    ensures refused { (p : ℕ) → IsFault (IsSentence sentence.now) (lexemes sentence.now tokens.now) p
+        → IsRefused result (offset sentence.now tokens.now p) }
     ensures names { IfOk result (λ r. All (λ x. IsFreeName x.text) (names_of_sentence (sentence_of r))) }
 {
     tokens_are_slices();
-    sentence_from(alloc, tokens.as_slice(), sentence)
+    sentence_from(alloc, &Source::new(tokens.as_slice(), sentence))
 }
 
-/// The sentence that tokens are.
-fn sentence_from(alloc: Global, tokens: &[Token], sentence: &[u8]) -> Result<Raw, ParseFault>
-    requires { All (IsTokenOf sentence.now) tokens.now }
-    ensures { Gives sentence_of sentence.now result (walked_sentence sentence.now (rest sentence.now tokens.now 0)) }
+/// The sentence that the tokens are.
+fn sentence_from(alloc: Global, source: &Source<'_>) -> Result<Raw, ParseFault>
+    ensures { Gives sentence_of source.now result (walked_sentence source.now.1 (rest source.now 0)) }
 {
-    match own_token(tokens, sentence, 0) {
-        Some(first) => behind_first(alloc, tokens, sentence, first),
-        None => Err(fault_at(tokens, sentence, 0)),
+    match source.token_at(0) {
+        Some(first) => behind_first(alloc, source, first),
+        None => Err(source.fault_at(0)),
     }
 }
 
 /// The sentence that begins with a token.
-fn behind_first(
-    alloc: Global,
-    tokens: &[Token],
-    sentence: &[u8],
-    first: Token,
-) -> Result<Raw, ParseFault>
-    requires all { All (IsTokenOf sentence.now) tokens.now }
-    requires first { rest sentence.now tokens.now 0 ≡ lexeme sentence.now first ∷ rest sentence.now tokens.now 1 }
-    requires slice { IsTokenOf sentence.now first }
-    ensures { Gives sentence_of sentence.now result (walked_sentence sentence.now (rest sentence.now tokens.now 0)) }
+fn behind_first(alloc: Global, source: &Source<'_>, first: Token) -> Result<Raw, ParseFault>
+    requires first { rest source.now 0 ≡ lexeme source.now.1 first ∷ rest source.now 1 }
+    requires slice { IsTokenOf source.now.1 first }
+    ensures { Gives sentence_of source.now result (walked_sentence source.now.1 (rest source.now 0)) }
 {
     match first.kind {
-        TokenKind::Name => behind_name(alloc, tokens, sentence, first.span),
-        TokenKind::Exists => witness(alloc, tokens, sentence, 1),
-        TokenKind::Bullet => end(tokens, sentence, 1, bullet(first.span, sentence)),
-        TokenKind::LeftBrace => end(tokens, sentence, 1, Raw::BraceIn),
-        TokenKind::RightBrace => end(tokens, sentence, 1, Raw::BraceOut),
+        TokenKind::Name => behind_name(alloc, source, first.span),
+        TokenKind::Exists => witness(alloc, source, 1),
+        TokenKind::Bullet => source.end(1, bullet(first.span, source.sentence())),
+        TokenKind::LeftBrace => source.end(1, Raw::BraceIn),
+        TokenKind::RightBrace => source.end(1, Raw::BraceOut),
         _ => Err(ParseFault::At(first.span.from)),
     }
 }
@@ -85,23 +80,18 @@ fn bullet(span: Span, sentence: &[u8]) -> Raw
 }
 
 /// The sentence that begins with a name.
-fn behind_name(
-    alloc: Global,
-    tokens: &[Token],
-    sentence: &[u8],
-    span: Span,
-) -> Result<Raw, ParseFault>
-    requires all { All (IsTokenOf sentence.now) tokens.now }
+fn behind_name(alloc: Global, source: &Source<'_>, span: Span) -> Result<Raw, ParseFault>
     requires ordered { span.from ≤ span.to }
-    requires within { span.to ≤ length sentence.now }
-    ensures { Gives sentence_of sentence.now result (walked_word sentence.now (tok (kind.name (slice sentence.now span)) span) (rest sentence.now tokens.now 1) (word_of (kind.name (slice sentence.now span)))) }
+    requires within { span.to ≤ length source.now.1 }
+    ensures { Gives sentence_of source.now result (walked_word source.now.1 (tok (kind.name (slice source.now.1 span)) span)
+        (rest source.now 1) (word_of (kind.name (slice source.now.1 span)))) }
 {
-    let word = bytes_of(span, sentence);
+    let word = bytes_of(span, source.sentence());
     if let Some(command) = command_of(word) {
-        return command_behind(alloc, tokens, sentence, command, 1);
+        return command_behind(alloc, source, command, 1);
     }
     match tactic_of(word) {
-        Some(tactic) => refinement_behind(alloc, tokens, sentence, tactic, 1),
+        Some(tactic) => refinement_behind(alloc, source, tactic, 1),
         None => Err(ParseFault::At(span.from)),
     }
 }
@@ -109,87 +99,72 @@ fn behind_name(
 /// A sentence that is no refinement, behind its word.
 fn command_behind(
     alloc: Global,
-    tokens: &[Token],
-    sentence: &[u8],
+    source: &Source<'_>,
     command: Command,
     at: usize,
 ) -> Result<Raw, ParseFault>
-    requires { All (IsTokenOf sentence.now) tokens.now }
-    ensures { (c : Span) → Gives sentence_of sentence.now result (walked (following sentence.now c (command_word command)) (rest sentence.now tokens.now at)) }
+    ensures { (c : Span) → Gives sentence_of source.now result
+        (walked (following source.now.1 c (command_word command)) (rest source.now at)) }
 {
     match command {
-        Command::Parameter | Command::Axiom => declaration(alloc, tokens, sentence, at),
-        Command::Definition => definition(alloc, tokens, sentence, at),
-        Command::Lemma | Command::Theorem => beginning(alloc, tokens, sentence, at),
-        Command::Proof => finish(tokens, sentence, at, Raw::ProofWord),
-        Command::Qed => finish(tokens, sentence, at, Raw::Close(Closer::Qed)),
-        Command::Defined => finish(tokens, sentence, at, Raw::Close(Closer::Defined)),
-        Command::Admitted => finish(tokens, sentence, at, Raw::Close(Closer::Admitted)),
-        Command::Abort => finish(tokens, sentence, at, Raw::Close(Closer::Abort)),
+        Command::Parameter | Command::Axiom => declaration(alloc, source, at),
+        Command::Definition => definition(alloc, source, at),
+        Command::Lemma | Command::Theorem => beginning(alloc, source, at),
+        Command::Proof => source.finish(at, Raw::ProofWord),
+        Command::Qed => source.finish(at, Raw::Close(Closer::Qed)),
+        Command::Defined => source.finish(at, Raw::Close(Closer::Defined)),
+        Command::Admitted => source.finish(at, Raw::Close(Closer::Admitted)),
+        Command::Abort => source.finish(at, Raw::Close(Closer::Abort)),
     }
 }
 
 /// Behind `Parameter` or `Axiom`: a name and its shape.
-fn declaration(
-    alloc: Global,
-    tokens: &[Token],
-    sentence: &[u8],
-    at: usize,
-) -> Result<Raw, ParseFault>
-    requires { All (IsTokenOf sentence.now) tokens.now }
-    ensures { Gives sentence_of sentence.now result (walked declaring (rest sentence.now tokens.now at)) }
+fn declaration(alloc: Global, source: &Source<'_>, at: usize) -> Result<Raw, ParseFault>
+    ensures { Gives sentence_of source.now result (walked declaring (rest source.now at)) }
 {
-    let (name, at) = name_at(alloc, tokens, sentence, at)?;
-    let at = expect(tokens, sentence, at, Sign::Colon)?;
-    let (shape, at) = shape_at(alloc, tokens, sentence, at)?;
-    finish(tokens, sentence, at, Raw::Declare(name, shape))
+    let (name, at) = source.name_at(alloc, at)?;
+    let at = source.expect(at, Sign::Colon)?;
+    let (shape, at) = shape_at(alloc, source, at)?;
+    source.finish(at, Raw::Declare(name, shape))
 }
 
 /// Behind `Definition`: a name, groups, a sort or `Prop`, and a body.
-fn definition(
-    alloc: Global,
-    tokens: &[Token],
-    sentence: &[u8],
-    at: usize,
-) -> Result<Raw, ParseFault>
-    requires { All (IsTokenOf sentence.now) tokens.now }
-    ensures { Gives sentence_of sentence.now result (walked (following sentence.now no_span word.definition) (rest sentence.now tokens.now at)) }
+fn definition(alloc: Global, source: &Source<'_>, at: usize) -> Result<Raw, ParseFault>
+    ensures { Gives sentence_of source.now result (walked (following source.now.1 no_span word.definition) (rest source.now at)) }
 {
-    let (name, at) = name_at(alloc, tokens, sentence, at)?;
-    let (groups, at) = groups_at(alloc, tokens, sentence, at)?;
-    let at = expect(tokens, sentence, at, Sign::Colon)?;
-    if let Some(at) = skip(tokens, at, Sign::Prop) {
-        return defined(alloc, tokens, sentence, name, groups, None, at);
+    let (name, at) = source.name_at(alloc, at)?;
+    let (groups, at) = groups_at(alloc, source, at)?;
+    let at = source.expect(at, Sign::Colon)?;
+    if let Some(at) = source.skip(at, Sign::Prop) {
+        return defined(alloc, source, name, groups, None, at);
     }
-    let (sort, at) = name_at(alloc, tokens, sentence, at)?;
-    defined(alloc, tokens, sentence, name, groups, Some(sort), at)
+    let (sort, at) = source.name_at(alloc, at)?;
+    defined(alloc, source, name, groups, Some(sort), at)
 }
 
 /// Behind the sort of a definition: its body.
 fn defined(
     alloc: Global,
-    tokens: &[Token],
-    sentence: &[u8],
+    source: &Source<'_>,
     name: RawName,
     groups: RawGroups,
     sort: Option<RawName>,
     at: usize,
 ) -> Result<Raw, ParseFault>
-    requires { All (IsTokenOf sentence.now) tokens.now }
-    ensures { Gives sentence_of sentence.now result (walked (defining (name_of name) (groups_of groups) (maybe_name sort)) (rest sentence.now tokens.now at)) }
+    ensures { Gives sentence_of source.now result (walked (defining (name_of name) (groups_of groups) (maybe_name sort))
+        (rest source.now at)) }
 {
-    let at = expect(tokens, sentence, at, Sign::Define)?;
-    let (body, at) = expression_at(alloc, tokens, sentence, at)?;
-    finish(tokens, sentence, at, Raw::Define(name, groups, sort, body))
+    let at = source.expect(at, Sign::Define)?;
+    let (body, at) = expression_at(alloc, source, at)?;
+    source.finish(at, Raw::Define(name, groups, sort, body))
 }
 
 /// Behind `Lemma` or `Theorem`: a name and what it says.
-fn beginning(alloc: Global, tokens: &[Token], sentence: &[u8], at: usize) -> Result<Raw, ParseFault>
-    requires { All (IsTokenOf sentence.now) tokens.now }
-    ensures { Gives sentence_of sentence.now result (walked stating (rest sentence.now tokens.now at)) }
+fn beginning(alloc: Global, source: &Source<'_>, at: usize) -> Result<Raw, ParseFault>
+    ensures { Gives sentence_of source.now result (walked stating (rest source.now at)) }
 {
-    let (name, at) = name_at(alloc, tokens, sentence, at)?;
-    let at = expect(tokens, sentence, at, Sign::Colon)?;
-    let (formula, at) = expression_at(alloc, tokens, sentence, at)?;
-    finish(tokens, sentence, at, Raw::Begin(name, formula))
+    let (name, at) = source.name_at(alloc, at)?;
+    let at = source.expect(at, Sign::Colon)?;
+    let (formula, at) = expression_at(alloc, source, at)?;
+    source.finish(at, Raw::Begin(name, formula))
 }

@@ -1,6 +1,6 @@
 //! Whole sentences with their trees or faults, typed from the grammar.
 
-use crate::tests::{repeat, tell, tell_group, tell_name, tell_shape};
+use crate::tests::{tell, tell_group, tell_name, tell_shape};
 use crate::{Closer, ParseFault, Raw, RawExpr, RawGroups, RawName, RawTac, parse};
 use base_core::NoMemory;
 use std::alloc::{AllocGlobal, Global};
@@ -195,20 +195,6 @@ const DEFINITION_FAULTS: [Fault; 20] = [
     ("Definition d : f x := A.", 17),
 ];
 
-const LEMMA_FAULTS: [Fault; 11] = [
-    ("Lemma : A.", 6),
-    ("Lemma c A.", 8),
-    ("Lemma c : .", 10),
-    ("Lemma c : A", 11),
-    ("Lemma c c : A.", 8),
-    ("Lemma c : : A.", 10),
-    ("Lemma c : Set.", 10),
-    ("Lemma c : A := B.", 12),
-    ("Lemma c : (A.", 12),
-    ("Lemma c : A).", 11),
-    ("Theorem c : A -> Prop.", 17),
-];
-
 const WORD_FAULTS: [Fault; 20] = [
     ("", 0),
     (".", 0),
@@ -296,96 +282,6 @@ const ASSERT_FAULTS: [Fault; 18] = [
     ("assert (n : forall x : T).", 24),
     ("assert (n : (A /\\ )).", 18),
     ("assert.", 6),
-];
-
-const OTHER_FAULTS: [Fault; 20] = [
-    ("exists.", 6),
-    ("exists k", 8),
-    ("exists exists k.", 15),
-    ("exists Set.", 7),
-    ("exists x : T, a.", 9),
-    ("clear.", 5),
-    ("clear h k.", 8),
-    ("clear (h).", 6),
-    ("rewrite.", 7),
-    ("rewrite -> .", 11),
-    ("rewrite <- -> e.", 11),
-    ("rewrite e -> .", 10),
-    ("rewrite <-> e.", 8),
-    ("rewrite e in h.", 10),
-    ("unfold.", 6),
-    ("unfold d in.", 11),
-    ("unfold in h.", 7),
-    ("unfold d e in h.", 9),
-    ("unfold d in in h.", 12),
-    ("unfold d in h h.", 14),
-];
-
-const EDITED_COMMANDS: [Fault; 19] = [
-    ("Axiom : A.", 6),
-    ("Axiom a a : A.", 8),
-    ("Axiom a : [ A.", 10),
-    ("Theorem : A.", 8),
-    ("Theorem t : : A.", 12),
-    ("Theorem t , : A.", 10),
-    ("Definition g : V f x.", 17),
-    ("Definition g : V V := f x.", 17),
-    ("Definition g : ( V := f x.", 15),
-    ("Definition g (x : T) (y : U) z : V := x.", 29),
-    ("Defined", 7),
-    ("Defined Defined.", 8),
-    ("Defined True.", 8),
-    ("Admitted", 8),
-    ("Admitted := .", 9),
-    ("Abort", 5),
-    ("Abort Abort.", 6),
-    ("Abort , .", 6),
-    ("Qed ) .", 4),
-];
-
-const EDITED_WORDS: [Fault; 19] = [
-    (" (* a *) ", 9),
-    ("assumption", 10),
-    ("assumption assumption.", 11),
-    ("assumption in h.", 11),
-    ("exfalso", 7),
-    ("exfalso exfalso.", 8),
-    ("exfalso [ .", 8),
-    ("split ~ .", 6),
-    ("left , .", 5),
-    ("right", 5),
-    ("right right.", 6),
-    ("right | .", 6),
-    ("reflexivity reflexivity.", 12),
-    ("reflexivity = .", 12),
-    ("symmetry", 8),
-    ("symmetry symmetry.", 9),
-    ("symmetry -> .", 9),
-    ("{ {", 0),
-    ("} .", 0),
-];
-
-const EDITED_REFINEMENTS: [Fault; 20] = [
-    ("intro..", 5),
-    ("intro h", 7),
-    ("intro := h.", 6),
-    ("intros..", 6),
-    ("intros a ( b.", 9),
-    ("exact h..", 7),
-    ("apply c", 7),
-    ("apply c..", 7),
-    ("apply c , .", 8),
-    ("exists k ].", 9),
-    ("destruct h..", 10),
-    ("destruct h as [a | , b].", 19),
-    ("clear , h.", 6),
-    ("rewrite q..", 9),
-    ("rewrite -> -> e.", 11),
-    ("rewrite <- .", 11),
-    ("rewrite <- <- e.", 11),
-    ("rewrite <- = e.", 11),
-    ("unfold d d.", 9),
-    ("unfold d in ( h.", 12),
 ];
 
 /// A word, and names behind it.
@@ -560,93 +456,19 @@ fn assert_faults(rt: &(impl Abort + AllocGlobal), rows: &[Fault]) -> Result<(), 
 }
 
 #[test]
-fn declarations_have_their_trees(rt: HostRuntime) -> Result<(), Fail> {
-    assert_rows(&rt, &DECLARATIONS)
-}
-
-#[test]
-fn words_have_their_trees(rt: HostRuntime) -> Result<(), Fail> {
-    assert_rows(&rt, &WORDS)
-}
-
-#[test]
-fn refinements_have_their_trees(rt: HostRuntime) -> Result<(), Fail> {
+fn sentences_have_their_trees(rt: HostRuntime) -> Result<(), Fail> {
+    assert_rows(&rt, &DECLARATIONS)?;
+    assert_rows(&rt, &WORDS)?;
     assert_rows(&rt, &REFINEMENTS)?;
     assert_rows(&rt, &LONGER_REFINEMENTS)
 }
 
 #[test]
-fn declarations_have_their_faults(rt: HostRuntime) -> Result<(), Fail> {
+fn sentences_have_their_faults(rt: HostRuntime) -> Result<(), Fail> {
     assert_faults(&rt, &DECLARATION_FAULTS)?;
     assert_faults(&rt, &DEFINITION_FAULTS)?;
-    assert_faults(&rt, &LEMMA_FAULTS)
-}
-
-#[test]
-fn words_have_their_faults(rt: HostRuntime) -> Result<(), Fail> {
     assert_faults(&rt, &WORD_FAULTS)?;
-    assert_faults(&rt, &INTRO_FAULTS)
-}
-
-#[test]
-fn longer_refinements_have_their_faults(rt: HostRuntime) -> Result<(), Fail> {
+    assert_faults(&rt, &INTRO_FAULTS)?;
     assert_faults(&rt, &DESTRUCT_FAULTS)?;
-    assert_faults(&rt, &ASSERT_FAULTS)?;
-    assert_faults(&rt, &OTHER_FAULTS)
-}
-
-#[test]
-fn edited_forms_have_their_faults(rt: HostRuntime) -> Result<(), Fail> {
-    assert_faults(&rt, &EDITED_COMMANDS)?;
-    assert_faults(&rt, &EDITED_WORDS)?;
-    assert_faults(&rt, &EDITED_REFINEMENTS)
-}
-
-/// Openings inside one another in a sentence: what stands before them, the opening, what stands inside all of
-/// them, what closes each, and what stands behind; how many there may be, and the offset of the token that is one
-/// too many.
-type Limit = (
-    &'static str,
-    &'static str,
-    &'static str,
-    &'static str,
-    &'static str,
-    usize,
-    u64,
-);
-
-const LIMITS: [Limit; 4] = [
-    ("Axiom a : ", "~", "A", "", ".", 256, 266),
-    (
-        "Definition d (x : T) : Prop := ",
-        "~",
-        "A",
-        "",
-        ".",
-        256,
-        287,
-    ),
-    ("assert (n : ", "~", "A", "", ").", 255, 267),
-    ("exact ", "(", "a", ")", ".", 256, 262),
-];
-
-#[test]
-fn a_sentence_has_at_most_256_openings(rt: HostRuntime) -> Result<(), Fail> {
-    for (front, opening, middle, end, tail, most, offset) in LIMITS {
-        for count in [254, 255, 256, 257] {
-            let mut sentence = String::from_str(rt.alloc(), front)?;
-            repeat(&mut sentence, opening, count)?;
-            sentence.push_str(middle)?;
-            repeat(&mut sentence, end, count)?;
-            sentence.push_str(tail)?;
-            let told = told(rt.alloc(), sentence.as_str())?;
-            let mut fault = String::new(rt.alloc());
-            write!(fault, "at {offset}")?;
-            let is_fault = told.as_str() == fault.as_str();
-            assert_eq!(rt; is_fault, count > most, "at {front} {count}");
-            let is_tree = !told.as_str().starts_with("at ");
-            assert_eq!(rt; is_tree, count <= most, "at {front} {count}");
-        }
-    }
-    Ok(())
+    assert_faults(&rt, &ASSERT_FAULTS)
 }

@@ -1,22 +1,22 @@
 //! The expressions, shapes and evidence that stand in a sentence.
-ghost use Rattle.std.specs.Prelude.{◌≡◌, ℕ, [], ◌∷◌, All, IfOk, Some};
-ghost use Rattle.vern_lex.specs.Tokens.{IsTokenOf};
+ghost use Rattle.std.specs.Prelude.{◌≡◌, [], ◌∷◌, Some};
 ghost use Rattle.vern_grammar.specs.Machine.{at as state, want};
-ghost use Rattle.vern_sentence.specs.Slots.{enclosed as enclosed_slot, evidence as evidence_slot, expression as expression_slot, shape as shape_slot};
+ghost use Rattle.vern_sentence.specs.Slots.{enclosed as enclosed_slot, evidence as evidence_slot, expression as expression_slot};
+ghost use Rattle.vern_sentence.specs.Slots.{shape as shape_slot};
+ghost use Rattle.vern_parse.specs.Answers.{Bounded};
 ghost use Rattle.vern_parse.specs.Meaning.{expression as expression_of, frames, kind as kind_of, shape as shape_of};
-ghost use Rattle.vern_parse.specs.Reading.{Bounded};
 ghost use Rattle.vern_parse.specs.Sentences.{part_slot};
-ghost use Rattle.vern_parse.specs.Walks.{Gives, GivesState, part, ran, rest, stops, with_rest};
+ghost use Rattle.vern_parse.specs.Sources.{Gives, rest, with_rest};
+ghost use Rattle.vern_parse.specs.Walks.{GivesState, part, ran, stops};
 
 use crate::fault::{ParseFault, Stop};
 use crate::frames::{Frame, Mode};
 use crate::kind::Kind;
-use crate::pieces::{fault_at, own_token};
 use crate::raw::{RawExpr, Shape};
 use crate::read::{end_expression, end_shape, take_kind};
+use crate::source::Source;
 use crate::stack::Stack;
 use std::alloc::Global;
-use vern_lex::Token;
 
 /// The parts of sentences that have no end of their own: an expression, or one with the `)` behind it; a shape;
 /// evidence.
@@ -31,18 +31,16 @@ pub enum Part {
 /// An expression from a token on, and the number of the token behind it.
 pub fn expression_at(
     alloc: Global,
-    tokens: &[Token],
-    sentence: &[u8],
+    source: &Source<'_>,
     at: usize,
 ) -> Result<(RawExpr, usize), ParseFault>
-    requires { All (IsTokenOf sentence.now) tokens.now }
-    ensures { Gives (with_rest expression_of sentence.now tokens.now) sentence.now result (part expression_slot (rest sentence.now tokens.now at)) }
+    ensures { Gives (with_rest expression_of source.now) source.now result (part expression_slot (rest source.now at)) }
 {
     let mut stack = Stack::new(alloc);
-    let (mode, end) = read_part(alloc, tokens, sentence, at, Part::Expression, &mut stack)?;
+    let (mode, end) = read_part(alloc, source, at, Part::Expression, &mut stack)?;
     match end_expression(alloc, mode, &mut stack) {
         Ok(found) => Ok((found, end)),
-        Err(Stop::Refused) => Err(fault_at(tokens, sentence, end)),
+        Err(Stop::Refused) => Err(source.fault_at(end)),
         Err(Stop::NoMemory) => Err(ParseFault::NoMemory),
     }
 }
@@ -50,18 +48,16 @@ pub fn expression_at(
 /// Evidence: a name with arguments, each a name or evidence in parentheses.
 pub fn evidence_at(
     alloc: Global,
-    tokens: &[Token],
-    sentence: &[u8],
+    source: &Source<'_>,
     at: usize,
 ) -> Result<(RawExpr, usize), ParseFault>
-    requires { All (IsTokenOf sentence.now) tokens.now }
-    ensures { Gives (with_rest expression_of sentence.now tokens.now) sentence.now result (part evidence_slot (rest sentence.now tokens.now at)) }
+    ensures { Gives (with_rest expression_of source.now) source.now result (part evidence_slot (rest source.now at)) }
 {
     let mut stack = Stack::new(alloc);
-    let (mode, end) = read_part(alloc, tokens, sentence, at, Part::Evidence, &mut stack)?;
+    let (mode, end) = read_part(alloc, source, at, Part::Evidence, &mut stack)?;
     match end_expression(alloc, mode, &mut stack) {
         Ok(found) => Ok((found, end)),
-        Err(Stop::Refused) => Err(fault_at(tokens, sentence, end)),
+        Err(Stop::Refused) => Err(source.fault_at(end)),
         Err(Stop::NoMemory) => Err(ParseFault::NoMemory),
     }
 }
@@ -69,38 +65,30 @@ pub fn evidence_at(
 /// An expression behind a `(`, with its `)`.
 pub fn enclosed_at(
     alloc: Global,
-    tokens: &[Token],
-    sentence: &[u8],
+    source: &Source<'_>,
     at: usize,
 ) -> Result<(RawExpr, usize), ParseFault>
-    requires { All (IsTokenOf sentence.now) tokens.now }
-    ensures { Gives (with_rest expression_of sentence.now tokens.now) sentence.now result (part enclosed_slot (rest sentence.now tokens.now at)) }
+    ensures { Gives (with_rest expression_of source.now) source.now result (part enclosed_slot (rest source.now at)) }
 {
     let mut stack = Stack::new(alloc);
     stack.push(Frame::Parenthesis(0))?;
-    let (mode, end) = read_part(alloc, tokens, sentence, at, Part::Enclosed, &mut stack)?;
+    let (mode, end) = read_part(alloc, source, at, Part::Enclosed, &mut stack)?;
     match mode {
         Mode::After(found, _, _) if stack.first().is_none() => Ok((found, end)),
-        _ => Err(fault_at(tokens, sentence, end)),
+        _ => Err(source.fault_at(end)),
     }
 }
 
 /// A shape from a token on, and the number of the token behind it.
-pub fn shape_at(
-    alloc: Global,
-    tokens: &[Token],
-    sentence: &[u8],
-    at: usize,
-) -> Result<(Shape, usize), ParseFault>
-    requires { All (IsTokenOf sentence.now) tokens.now }
-    ensures { Gives (with_rest shape_of sentence.now tokens.now) sentence.now result (part shape_slot (rest sentence.now tokens.now at)) }
+pub fn shape_at(alloc: Global, source: &Source<'_>, at: usize) -> Result<(Shape, usize), ParseFault>
+    ensures { Gives (with_rest shape_of source.now) source.now result (part shape_slot (rest source.now at)) }
 {
     let mut stack = Stack::new(alloc);
     stack.push(Frame::Outline)?;
-    let (mode, end) = read_part(alloc, tokens, sentence, at, Part::Shape, &mut stack)?;
+    let (mode, end) = read_part(alloc, source, at, Part::Shape, &mut stack)?;
     match end_shape(alloc, mode, &mut stack) {
         Ok(found) => Ok((found, end)),
-        Err(Stop::Refused) => Err(fault_at(tokens, sentence, end)),
+        Err(Stop::Refused) => Err(source.fault_at(end)),
         Err(Stop::NoMemory) => Err(ParseFault::NoMemory),
     }
 }
@@ -108,19 +96,17 @@ pub fn shape_at(
 /// The state behind all tokens of a part, and the number of the token behind them.
 fn read_part(
     alloc: Global,
-    tokens: &[Token],
-    sentence: &[u8],
+    source: &Source<'_>,
     at: usize,
     part: Part,
     stack: &mut Stack,
 ) -> Result<(Mode, usize), ParseFault>
-    requires { All (IsTokenOf sentence.now) tokens.now }
-    ensures { GivesState sentence.now tokens.now result stack.new (ran (part_slot part) (state want (frames stack.old)) (rest sentence.now tokens.now at)) }
+    ensures { GivesState source.now result stack.new (ran (part_slot part) (state want (frames stack.old)) (rest source.now at)) }
 {
     let mut mode = Mode::Want;
     let mut at = at;
-    'tokens: while let Some(token) = own_token(tokens, sentence, at) {
-        let kind = Kind::of(alloc, token, sentence)?;
+    'tokens: while let Some(token) = source.token_at(at) {
+        let kind = Kind::of(alloc, token, source.sentence())?;
         if stops(part, &kind, stack) {
             return Ok((mode, at));
         }

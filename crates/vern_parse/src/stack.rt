@@ -3,7 +3,7 @@ ghost use Rattle.std.specs.Prelude.{◌≡◌, ◌+◌, ◌<◌, ◌^◌, [], �
 ghost use Rattle.std.specs.Option.{option_copied};
 ghost use Rattle.vern_grammar.specs.Machine.{depth, top, weight, in_shape};
 ghost use Rattle.vern_parse.specs.Meaning.{frame as meaning, frames};
-ghost use Rattle.vern_parse.specs.Reading.{first};
+ghost use Rattle.vern_parse.specs.Answers.{first};
 
 use crate::frames::Frame;
 use crate::levels::{BARE, OUTER};
@@ -23,7 +23,7 @@ impl Model for Stack {
     ghost use Rattle.vern_parse.specs.declared.frames.Frame.{Frame};
     ghost use Rattle.vern_grammar.specs.Machine.{depth as opened};
     ghost use Rattle.vern_parse.specs.Meaning.{frames as meaning};
-    ghost use Rattle.vern_parse.specs.Reading.{stacked};
+    ghost use Rattle.vern_parse.specs.Answers.{stacked};
     ghost use Rattle.vern_parse.specs.contracts.raw.RawExpr as e;
     ghost use Rattle.std.specs.Coded.{codes};
 

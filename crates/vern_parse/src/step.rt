@@ -5,8 +5,9 @@ ghost use Rattle.vern_grammar.specs.Grammar.{application, named, quantifier, sin
 ghost use Rattle.vern_grammar.specs.Levels.{limit};
 ghost use Rattle.vern_grammar.specs.Machine as machine;
 ghost use Rattle.vern_grammar.specs.Machine.{at, behind, counted, depth, on, weight, with_group, within};
-ghost use Rattle.vern_parse.specs.Meaning.{binder as binder_of, expression, frame as frame_of, frames, kind as kind_of, mode as mode_of, name as name_of};
-ghost use Rattle.vern_parse.specs.Reading.{Bounded, Steps};
+ghost use Rattle.vern_parse.specs.Meaning.{binder as binder_of, expression, frame as frame_of, frames, kind as kind_of, mode as mode_of};
+ghost use Rattle.vern_parse.specs.Meaning.{name as name_of};
+ghost use Rattle.vern_parse.specs.Answers.{Bounded, Steps};
 
 use crate::fault::Stop;
 use crate::frames::{Binder, Frame, Head, Mode};
@@ -15,7 +16,7 @@ use crate::levels::{LIMIT, TILDE};
 use crate::raw::{RawExpr, RawExprs, RawGroup, RawName, RawNames, Shape};
 use crate::reduce::{close, place};
 use crate::stack::Stack;
-use base_core::{Bytes, NoMemory};
+use base_core::{NoMemory, SharedBytes};
 use std::alloc::Global;
 use vern_lex::Span;
 
@@ -100,7 +101,8 @@ fn applying(
     kind: Kind,
     span: Span,
 ) -> Result<Mode, Stop>
-    ensures exact { Steps result stack.new (on (machine.applying (name_of name) (map expression arguments.items) to) (frames stack.old) (kind_of kind) span) }
+    ensures exact { Steps result stack.new (on (machine.applying (name_of name) (map expression arguments.items) to) (frames stack.old)
+        (kind_of kind) span) }
     ensures bounded { IfOk result (λ m. Bounded m stack.new) }
 {
     match kind {
@@ -132,7 +134,7 @@ pub fn application(name: RawName, arguments: RawExprs, to: u64) -> RawExpr
 
 /// The tree of a name alone.
 #[tactic(auto, using(crate::proofs::Trees::applications))]
-fn single(alloc: Global, text: Bytes, span: Span) -> RawExpr
+fn single(alloc: Global, text: SharedBytes, span: Span) -> RawExpr
     ensures { expression result ≡ single text span }
 {
     RawExpr::App(RawName { text, span }, Vec::new(alloc), span)
@@ -162,11 +164,12 @@ fn after(
 fn named(
     binder: Binder,
     names: RawNames,
-    text: Bytes,
+    text: SharedBytes,
     span: Span,
 ) -> Result<(Binder, RawNames), NoMemory>
     requires { binder.bound < limit }
-    ensures { IfOk result (λ r. (binder_of r.0 ≡ counted (binder_of binder)) × (map name_of r.1.items ≡ map name_of names.items ++ named text span ∷ []) × (r.0.bound ≡ binder.bound + 1)) }
+    ensures { IfOk result (λ r. (binder_of r.0 ≡ counted (binder_of binder))
+        × (map name_of r.1.items ≡ map name_of names.items ++ named text span ∷ []) × (r.0.bound ≡ binder.bound + 1)) }
 {
     let mut names = names;
     names.push(RawName { text, span })?;
@@ -177,7 +180,8 @@ fn named(
 
 /// A quantifier with the names and their sort.
 fn with_group(binder: Binder, names: RawNames, sort: RawName) -> Result<Binder, NoMemory>
-    ensures { IfOk result (λ b. (binder_of b ≡ with_group (binder_of binder) (map name_of names.items) (name_of sort)) × (b.bound ≡ binder.bound)) }
+    ensures { IfOk result (λ b. (binder_of b ≡ with_group (binder_of binder) (map name_of names.items) (name_of sort))
+        × (b.bound ≡ binder.bound)) }
 {
     let mut binder = binder;
     binder.groups.push(RawGroup { names, sort })?;
@@ -194,7 +198,8 @@ fn in_names(
     span: Span,
 ) -> Result<Mode, Stop>
     requires { depth (frames stack.old) + binder.bound ≤ limit }
-    ensures exact { Steps result stack.new (on (machine.in_names (binder_of binder) (map name_of names.items)) (frames stack.old) (kind_of kind) span) }
+    ensures exact { Steps result stack.new (on (machine.in_names (binder_of binder) (map name_of names.items)) (frames stack.old)
+        (kind_of kind) span) }
     ensures bounded { IfOk result (λ m. Bounded m stack.new) }
 {
     match kind {
@@ -211,7 +216,8 @@ fn in_names(
 /// A group opens, where a name has room in it.
 fn open_group(alloc: Global, binder: Binder, stack: &mut Stack) -> Result<Mode, Stop>
     requires { depth (frames stack.old) + binder.bound ≤ limit }
-    ensures exact { Steps result stack.new (within (depth (frames stack.old) + binder.bound + 1) (at (machine.in_group (binder_of binder) []) (frames stack.old))) }
+    ensures exact { Steps result stack.new (within (depth (frames stack.old) + binder.bound + 1)
+        (at (machine.in_group (binder_of binder) []) (frames stack.old))) }
     ensures bounded { IfOk result (λ m. Bounded m stack.new) }
 {
     if stack.depth() + binder.bound + 1 >= LIMIT {
@@ -229,7 +235,8 @@ fn names_sort(
     span: Span,
 ) -> Result<Mode, Stop>
     requires { depth (frames stack.old) + binder.bound ≤ limit }
-    ensures exact { Steps result stack.new (on (machine.names_sort (binder_of binder) (map name_of names.items)) (frames stack.old) (kind_of kind) span) }
+    ensures exact { Steps result stack.new (on (machine.names_sort (binder_of binder) (map name_of names.items)) (frames stack.old)
+        (kind_of kind) span) }
     ensures bounded { IfOk result (λ m. Bounded m stack.new) }
 {
     match kind {
@@ -241,7 +248,8 @@ fn names_sort(
 /// A token comes behind the sort of a quantifier's names.
 fn names_end(binder: Binder, stack: &mut Stack, kind: Kind) -> Result<Mode, Stop>
     requires { depth (frames stack.old) + binder.bound ≤ limit }
-    ensures exact { (span : Span) → Steps result stack.new (on (machine.names_end (binder_of binder)) (frames stack.old) (kind_of kind) span) }
+    ensures exact { (span : Span) → Steps result stack.new
+        (on (machine.names_end (binder_of binder)) (frames stack.old) (kind_of kind) span) }
     ensures bounded { IfOk result (λ m. Bounded m stack.new) }
 {
     match kind {
@@ -269,7 +277,8 @@ fn in_group(
     span: Span,
 ) -> Result<Mode, Stop>
     requires { depth (frames stack.old) + binder.bound ≤ limit }
-    ensures exact { Steps result stack.new (on (machine.in_group (binder_of binder) (map name_of names.items)) (frames stack.old) (kind_of kind) span) }
+    ensures exact { Steps result stack.new (on (machine.in_group (binder_of binder) (map name_of names.items)) (frames stack.old)
+        (kind_of kind) span) }
     ensures bounded { IfOk result (λ m. Bounded m stack.new) }
 {
     match kind {
@@ -291,7 +300,8 @@ fn group_sort(
     span: Span,
 ) -> Result<Mode, Stop>
     requires { depth (frames stack.old) + binder.bound ≤ limit }
-    ensures exact { Steps result stack.new (on (machine.group_sort (binder_of binder) (map name_of names.items)) (frames stack.old) (kind_of kind) span) }
+    ensures exact { Steps result stack.new (on (machine.group_sort (binder_of binder) (map name_of names.items)) (frames stack.old)
+        (kind_of kind) span) }
     ensures bounded { IfOk result (λ m. Bounded m stack.new) }
 {
     match kind {
@@ -303,7 +313,8 @@ fn group_sort(
 /// A token comes behind the sort of a group.
 fn group_end(binder: Binder, stack: &mut Stack, kind: Kind) -> Result<Mode, Stop>
     requires { depth (frames stack.old) + binder.bound ≤ limit }
-    ensures exact { (span : Span) → Steps result stack.new (on (machine.group_end (binder_of binder)) (frames stack.old) (kind_of kind) span) }
+    ensures exact { (span : Span) → Steps result stack.new
+        (on (machine.group_end (binder_of binder)) (frames stack.old) (kind_of kind) span) }
     ensures bounded { IfOk result (λ m. Bounded m stack.new) }
 {
     match kind {
@@ -315,7 +326,8 @@ fn group_end(binder: Binder, stack: &mut Stack, kind: Kind) -> Result<Mode, Stop
 /// A token comes behind whole groups.
 fn in_groups(alloc: Global, binder: Binder, stack: &mut Stack, kind: Kind) -> Result<Mode, Stop>
     requires { depth (frames stack.old) + binder.bound ≤ limit }
-    ensures exact { (span : Span) → Steps result stack.new (on (machine.in_groups (binder_of binder)) (frames stack.old) (kind_of kind) span) }
+    ensures exact { (span : Span) → Steps result stack.new
+        (on (machine.in_groups (binder_of binder)) (frames stack.old) (kind_of kind) span) }
     ensures bounded { IfOk result (λ m. Bounded m stack.new) }
 {
     match kind {

@@ -1,4 +1,4 @@
-//! Sentences with their trees or faults, typed from the grammar's table.
+//! Expressions and shapes with their trees or faults, typed from the grammar's table.
 ghost use Rattle.std.specs.Prelude.{All, IfOk};
 ghost use Rattle.vern_lex.specs.Tokens.{IsTokenOf};
 
@@ -97,64 +97,27 @@ const EXPRESSIONS_2: [(&str, &str); 20] = [
     ("a \\/ ~ b", "(a[0-1] \\/ (~ b[7-8])[5-8])[0-8]"),
 ];
 
-const EXPRESSIONS_3: [(&str, &str); 20] = [
-    ("a /\\ ~ b", "(a[0-1] /\\ (~ b[7-8])[5-8])[0-8]"),
-    ("a <> ~ b", "at 5"),
-    (
-        "a -> forall x : T, b",
-        "(a[0-1] -> (forall x[12-13] : T[16-17], b[19-20])[5-20])[0-20]",
-    ),
-    (
-        "a <-> forall x : T, b",
-        "(a[0-1] <-> (forall x[13-14] : T[17-18], b[20-21])[6-21])[0-21]",
-    ),
-    (
-        "a \\/ exists x : T, b",
-        "(a[0-1] \\/ (exists x[12-13] : T[16-17], b[19-20])[5-20])[0-20]",
-    ),
-    (
-        "a <> forall x : T, b",
-        "(a[0-1] <> (forall x[12-13] : T[16-17], b[19-20])[5-20])[0-20]",
-    ),
-    (
-        "~ forall x : T, a -> b",
-        "(~ (forall x[9-10] : T[13-14], (a[16-17] -> b[21-22])[16-22])[2-22])[0-22]",
-    ),
-    (
-        "~ forall x : T, a = b",
-        "(~ (forall x[9-10] : T[13-14], (a[16-17] = b[20-21])[16-21])[2-21])[0-21]",
-    ),
-    ("~ forall x : T, a = b = c", "at 22"),
-    ("a <-> forall x : T, b <-> c <-> d", "at 28"),
+const FAULTS: [(&str, &str); 24] = [
     ("", "at 0"),
-    ("a -> b /\\ .", "at 10"),
     ("a -> b /\\", "at 9"),
-    (")", "at 0"),
     ("()", "at 1"),
     ("(a", "at 2"),
     ("a)", "at 1"),
-    ("(a))", "at 3"),
     ("(a) b", "at 4"),
     ("True x", "at 5"),
-];
-
-const EXPRESSIONS_4: [(&str, &str); 20] = [
-    ("(a) (b)", "at 4"),
     ("f (x) (", "at 7"),
     ("-> a", "at 0"),
-    ("a b -> ~ = c", "at 9"),
     ("a = ~ b", "at 4"),
+    ("a <-> b <-> c", "at 8"),
+    ("a = b = c", "at 6"),
     ("a : b", "at 2"),
-    ("a , b", "at 2"),
-    ("Set", "at 0"),
-    ("Prop", "at 0"),
     ("a -> Prop", "at 5"),
     ("a in b", "at 2"),
     ("a. b", "at 1"),
+    ("~ forall x : T, a = b = c", "at 22"),
     ("forall , a", "at 7"),
     ("forall x, a", "at 8"),
     ("forall x : , a", "at 11"),
-    ("forall x : T U, a", "at 13"),
     ("forall x (y : T), a", "at 9"),
     ("forall () , a", "at 8"),
     ("forall (x : T) y : T, a", "at 15"),
@@ -190,20 +153,6 @@ const SHAPES: [(&str, &str); 19] = [
     ("T -> Prop Set", "at 10"),
 ];
 
-/// The operators, and how many bytes each has.
-const OPERATORS: [(&str, u8); 6] = [
-    ("->", 2),
-    ("<->", 3),
-    ("\\/", 2),
-    ("/\\", 2),
-    ("=", 1),
-    ("<>", 2),
-];
-
-/// For each operator as the first of two, and each as the second: L where the left one binds tighter, R where
-/// the right one does, and F where no sentence has both.
-const BESIDE: [&str; 6] = ["RRRRRR", "LFRRRR", "LLRRRR", "LLLRRR", "LLLLFF", "LLLLFF"];
-
 /// Openings inside one another: what stands before them, the opening, what stands behind all, and behind each;
 /// how many at most, and the offset of the token that is one too many.
 type Opening = (
@@ -225,15 +174,6 @@ const OPENINGS: [Opening; 7] = [
     ("forall (", "x ", ": T), a", "", 255, 518),
 ];
 
-const OPERATOR_OPENINGS: [Opening; 6] = [
-    ("", "a -> ", "a", "", 256, 1282),
-    ("", "a <-> (", "a", ")", 128, 898),
-    ("", "a \\/ ", "a", "", 256, 1282),
-    ("", "a /\\ (", "a", ")", 128, 770),
-    ("", "a = exists x : T, ", "a", "", 128, 2306),
-    ("", "a <> (", "a", ")", 128, 770),
-];
-
 /// An opening, so many times, and what stands behind; the offset of the fault, or none.
 type LookAhead = (&'static str, usize, &'static str, Option<u64>);
 
@@ -246,25 +186,6 @@ const LOOK_AHEAD: [LookAhead; 8] = [
     ("~ ", 253, "exists (x : T) (y : T), a", None),
     ("~ ", 254, "forall x y z : T, a", Some(519)),
     ("~ ", 256, "(a)", Some(512)),
-];
-
-/// An operator as the 255th, 256th and 257th opening.
-const LAST_OPERATOR: [LookAhead; 15] = [
-    ("a -> ", 254, "a <-> b", None),
-    ("a -> ", 255, "a <-> b", None),
-    ("a -> ", 256, "a <-> b", Some(1282)),
-    ("a -> ", 254, "a \\/ b", None),
-    ("a -> ", 255, "a \\/ b", None),
-    ("a -> ", 256, "a \\/ b", Some(1282)),
-    ("a -> ", 254, "a /\\ b", None),
-    ("a -> ", 255, "a /\\ b", None),
-    ("a -> ", 256, "a /\\ b", Some(1282)),
-    ("a -> ", 254, "a = b", None),
-    ("a -> ", 255, "a = b", None),
-    ("a -> ", 256, "a = b", Some(1282)),
-    ("a -> ", 254, "a <> b", None),
-    ("a -> ", 255, "a <> b", None),
-    ("a -> ", 256, "a <> b", Some(1282)),
 ];
 
 fn tell_span(text: &mut String, span: Span) -> Result<(), NoMemory> {
@@ -398,46 +319,6 @@ fn told_shape(alloc: Global, sentence: &str) -> Result<String, Fail> {
     Ok(text)
 }
 
-/// What is told of three names with two operators, each with its bytes, between them.
-fn told_beside(
-    alloc: Global,
-    (first, first_bytes): (&str, u8),
-    (second, second_bytes): (&str, u8),
-    side: u8,
-) -> Result<String, NoMemory> {
-    let b = u64::from(first_bytes) + 3;
-    let at = b + 2;
-    let c = at + u64::from(second_bytes) + 1;
-    let (b_end, c_end) = (b + 1, c + 1);
-    let mut text = String::new(alloc);
-    match side {
-        b'L' => write!(
-            text,
-            "((a[0-1] {first} b[{b}-{b_end}])[0-{b_end}] {second} c[{c}-{c_end}])[0-{c_end}]"
-        )?,
-        b'R' => write!(
-            text,
-            "(a[0-1] {first} (b[{b}-{b_end}] {second} c[{c}-{c_end}])[{b}-{c_end}])[0-{c_end}]"
-        )?,
-        _ => write!(text, "at {at}")?,
-    }
-    Ok(text)
-}
-
-#[test]
-fn each_operator_stands_beside_each_other(rt: HostRuntime) -> Result<(), Fail> {
-    for (first, row) in OPERATORS.iter().zip(&BESIDE) {
-        for (second, side) in OPERATORS.iter().zip(row.as_bytes()) {
-            let mut sentence = String::new(rt.alloc());
-            write!(sentence, "a {} b {} c", first.0, second.0)?;
-            let want = told_beside(rt.alloc(), *first, *second, *side)?;
-            let told = told_expression(rt.alloc(), sentence.as_str())?;
-            assert_eq!(rt; told.as_str(), want.as_str(), "at {sentence}");
-        }
-    }
-    Ok(())
-}
-
 /// Where the fault of a sentence is, or none where it has a tree.
 fn fault_of(alloc: Global, sentence: &str) -> Result<Option<u64>, Fail> {
     let sentence = sentence.as_bytes();
@@ -449,7 +330,7 @@ fn fault_of(alloc: Global, sentence: &str) -> Result<Option<u64>, Fail> {
     }
 }
 
-pub fn repeat(text: &mut String, piece: &str, count: usize) -> Result<(), NoMemory> {
+fn repeat(text: &mut String, piece: &str, count: usize) -> Result<(), NoMemory> {
     for _ in 0..count {
         text.push_str(piece)?;
     }
@@ -458,7 +339,7 @@ pub fn repeat(text: &mut String, piece: &str, count: usize) -> Result<(), NoMemo
 
 fn assert_openings(rt: &(impl Abort + AllocGlobal), rows: &[Opening]) -> Result<(), Fail> {
     for (front, opening, tail, end, most, offset) in rows {
-        for count in [127, 128, 129, 254, 255, 256, 257] {
+        for count in [255, 256, 257] {
             let mut sentence = String::from_str(rt.alloc(), front)?;
             repeat(&mut sentence, opening, count)?;
             sentence.push_str(tail)?;
@@ -494,46 +375,6 @@ fn at_most_256_openings_are_open(rt: HostRuntime) -> Result<(), Fail> {
     assert_look_ahead(&rt, &LOOK_AHEAD)
 }
 
-#[test]
-fn at_most_256_operators_are_open(rt: HostRuntime) -> Result<(), Fail> {
-    assert_openings(&rt, &OPERATOR_OPENINGS)?;
-    assert_look_ahead(&rt, &LAST_OPERATOR)
-}
-
-#[test]
-fn a_shape_has_at_most_256_arrows(rt: HostRuntime) -> Result<(), Fail> {
-    for (count, want) in [(255, false), (256, false), (257, true)] {
-        let mut sentence = String::new(rt.alloc());
-        repeat(&mut sentence, "T -> ", count)?;
-        sentence.push_str("Set")?;
-        let told = told_shape(rt.alloc(), sentence.as_str())?;
-        assert_eq!(rt; told.as_str() == "at 1282", want, "at {count}");
-    }
-    Ok(())
-}
-
-/// How many arguments an application has.
-fn arguments_in(tree: &RawExpr) -> usize {
-    match tree {
-        RawExpr::App(_, arguments, _) => arguments.len(),
-        _ => 0,
-    }
-}
-
-#[test]
-fn a_long_sentence_is_read(rt: HostRuntime) -> Result<(), Fail> {
-    let mut sentence = String::from_str(rt.alloc(), "f")?;
-    repeat(&mut sentence, " a", 32767)?;
-    let sentence = sentence.as_bytes();
-    let found = tokens_of(rt.alloc(), sentence)?;
-    let count = match expression(rt.alloc(), found.as_slice(), sentence) {
-        Ok(tree) => arguments_in(&tree),
-        Err(_) => 0,
-    };
-    assert_eq!(rt; count, 32767);
-    Ok(())
-}
-
 fn assert_told(rt: &(impl Abort + AllocGlobal), rows: &[(&str, &str)]) -> Result<(), Fail> {
     for (sentence, want) in rows {
         let told = told_expression(rt.alloc(), sentence)?;
@@ -543,23 +384,10 @@ fn assert_told(rt: &(impl Abort + AllocGlobal), rows: &[(&str, &str)]) -> Result
 }
 
 #[test]
-fn each_sentence_has_its_tree_or_fault_1(rt: HostRuntime) -> Result<(), Fail> {
-    assert_told(&rt, &EXPRESSIONS_1)
-}
-
-#[test]
-fn each_sentence_has_its_tree_or_fault_2(rt: HostRuntime) -> Result<(), Fail> {
-    assert_told(&rt, &EXPRESSIONS_2)
-}
-
-#[test]
-fn each_sentence_has_its_tree_or_fault_3(rt: HostRuntime) -> Result<(), Fail> {
-    assert_told(&rt, &EXPRESSIONS_3)
-}
-
-#[test]
-fn each_sentence_has_its_tree_or_fault_4(rt: HostRuntime) -> Result<(), Fail> {
-    assert_told(&rt, &EXPRESSIONS_4)
+fn each_expression_has_its_tree_or_fault(rt: HostRuntime) -> Result<(), Fail> {
+    assert_told(&rt, &EXPRESSIONS_1)?;
+    assert_told(&rt, &EXPRESSIONS_2)?;
+    assert_told(&rt, &FAULTS)
 }
 
 #[test]

@@ -5,8 +5,10 @@ use Rattle.vern_grammar.specs.Trees.{Name, Expression}
 use Rattle.vern_grammar.specs.Kinds.{Kind, Lexeme}
 use Rattle.vern_grammar.specs.Kinds as kind
 use Rattle.vern_grammar.specs.Levels.{limit}
-use Rattle.vern_grammar.specs.Grammar.{tok, span, named, application, Head, Next, last, IsOperand, constant, applied, enclosed, governed, IsApplication, alone, to_name, to_expression, IsHead, left, negating, names, groups, IsExpression}
-use Rattle.vern_grammar.specs.Machine.{Frame, parenthesis, argument, Mode, State, at, want, applying, after, depth, within, close, whole, an_expression, on, step, run, ends}
+use Rattle.vern_grammar.specs.Grammar.{tok, span, named, application, Head, Next, last, IsOperand, constant, applied, enclosed, governed}
+use Rattle.vern_grammar.specs.Grammar.{IsApplication, alone, to_name, to_expression, IsHead, left, negating, names, groups, IsExpression}
+use Rattle.vern_grammar.specs.Machine.{Frame, parenthesis, argument, Mode, State, at, want, applying, after, depth, within, close, whole}
+use Rattle.vern_grammar.specs.Machine.{an_expression, on, step, run, ends}
 use Rattle.vern_grammar.proofs.Runs.{is_foreign}
 use Rattle.vern_grammar.proofs.Laws as laws
 use Rattle.vern_sentence.specs.Evidence.{IsEvidenceBehind, IsEvidenceApplication, IsEvidence}
@@ -36,14 +38,17 @@ simple_back (t ∷ ts) us a = simple_back ts us a.1
 -- ---- evidence is an expression
 
 mutual
-  pub evidence_operand : {o : ℕ} {ts : List Lexeme} {t : Expression} → IsEvidenceBehind o ts t → (from : ℕ) × (to : ℕ) × ((g : Next) → IsOperand 0 g o ts from to t)
+  pub evidence_operand : {o : ℕ} {ts : List Lexeme} {t : Expression} → IsEvidenceBehind o ts t
+      → (from : ℕ) × (to : ℕ) × ((g : Next) → IsOperand 0 g o ts from to t)
   evidence_operand (ev.applied {to = to} {x = x} w) = (x.span.from, to, λ g. applied (evidence_application w))
   evidence_operand (ev.enclosed c d l e) = let (a, b, f) = evidence_operand e in (c.from, d.to, λ g. enclosed c d l (f last))
 
-  evidence_application : {o to : ℕ} {ts : List Lexeme} {x : Name} {ys : List Expression} → IsEvidenceApplication o ts x ys to → IsApplication o ts x ys to
+  evidence_application : {o to : ℕ} {ts : List Lexeme} {x : Name} {ys : List Expression} → IsEvidenceApplication o ts x ys to
+      → IsApplication o ts x ys to
   evidence_application (ev.alone x c) = alone x c
   evidence_application (ev.to_name y c w) = to_name y c (evidence_application w)
-  evidence_application (ev.to_evidence c d w l e) = let (a, b, f) = evidence_operand e in to_expression c d (evidence_application w) l (f last)
+  evidence_application (ev.to_evidence c d w l e) = let (a, b, f) = evidence_operand e in
+      to_expression c d (evidence_application w) l (f last)
 
 mutual
   pub evidence_simple : {o : ℕ} {ts : List Lexeme} {t : Expression} → IsEvidenceBehind o ts t → AllSimple ts
@@ -53,7 +58,8 @@ mutual
   application_simple : {o to : ℕ} {ts : List Lexeme} {x : Name} {ys : List Expression} → IsEvidenceApplication o ts x ys to → AllSimple ts
   application_simple (ev.alone x c) = (refl, tt)
   application_simple (ev.to_name {ts = ts} y c w) = simple_both ts _ (application_simple w) (refl, tt)
-  application_simple (ev.to_evidence {ts = ts} {us = us} c d w l e) = simple_both ts _ (application_simple w) (refl, simple_both us _ (evidence_simple e) (refl, tt))
+  application_simple (ev.to_evidence {ts = ts} {us = us} c d w l e) =
+      simple_both ts _ (application_simple w) (refl, simple_both us _ (evidence_simple e) (refl, tt))
 
 pub evidence_expression : (ts : List Lexeme) (t : Expression) → IsEvidence ts t → IsExpression ts t
 evidence_expression ts t e = let (a, b, f) = evidence_operand e in (0, a, b, f last)
@@ -70,13 +76,15 @@ head_not_simple (names q a b c d sort ns p) s = let h = s.0 in cc
 head_not_simple (groups q a d gs) s = let h = s.0 in cc
 
 mutual
-  operand_evidence : {n o from to : ℕ} {g : Next} {ts : List Lexeme} {t : Expression} → IsOperand n g o ts from to t → AllSimple ts → IsEvidenceBehind o ts t
+  operand_evidence : {n o from to : ℕ} {g : Next} {ts : List Lexeme} {t : Expression} → IsOperand n g o ts from to t → AllSimple ts
+      → IsEvidenceBehind o ts t
   operand_evidence (constant b c) s = let h = s.0 in cc
   operand_evidence (applied w) s = ev.applied (application_evidence w s)
   operand_evidence (enclosed {ts = ts} c d l e) s = ev.enclosed c d l (operand_evidence e (simple_front ts _ s.1))
   operand_evidence (governed {ts = ts} {us = us} h f e r) s = absurd (head_not_simple h (simple_front ts us s))
 
-  application_evidence : {o to : ℕ} {ts : List Lexeme} {x : Name} {ys : List Expression} → IsApplication o ts x ys to → AllSimple ts → IsEvidenceApplication o ts x ys to
+  application_evidence : {o to : ℕ} {ts : List Lexeme} {x : Name} {ys : List Expression} → IsApplication o ts x ys to → AllSimple ts
+      → IsEvidenceApplication o ts x ys to
   application_evidence (alone x c) s = ev.alone x c
   application_evidence (to_name {ts = ts} y c w) s = ev.to_name y c (application_evidence w (simple_front ts _ s))
   application_evidence (to_expression {ts = ts} {us = us} c d w l e) s =
@@ -95,7 +103,8 @@ evidence_step false m y e = cc
 
 simple_over : (ts : List Lexeme) (s z : State) → over evidence (Some s) ts ≡ Some z → AllSimple ts
 simple_over [] s z e = tt
-simple_over (t ∷ ts) s z e = split_over evidence (AllSimple (t ∷ ts)) (next_place evidence s t) ts z (λ y q p. ((evidence_step (is_simple t.kind) (step s t) y q).0, simple_over ts y z p)) e
+simple_over (t ∷ ts) s z e = split_over evidence (AllSimple (t ∷ ts)) (next_place evidence s t) ts z
+    (λ y q p. ((evidence_step (is_simple t.kind) (step s t) y q).0, simple_over ts y z p)) e
 
 foreign_evidence : (s : State) (k : Kind) (c : Span) → is_foreign k ≡ true → next_place evidence s (tok k c) ≡ None
 foreign_evidence s (kind.name x) c e = cc
@@ -107,9 +116,16 @@ pub evidence_ran : (ts : List Lexeme) (t : Expression) → IsEvidence ts t → R
 evidence_ran ts t e = by (laws.expression_stands ts t (evidence_expression ts t e))
   where
     by : laws.Stands [] ts (an_expression t) → Ran evidence ts t
-    by r = record { place = r.state; ran = over_simple ts _ (evidence_simple e) ∙ r.ran; tree = ap expression_in r.finished; foreign = foreign_evidence r.state }
+    by r = record {
+      place = r.state;
+      ran = over_simple ts _ (evidence_simple e) ∙ r.ran;
+      tree = ap expression_in r.finished;
+      foreign =
+          foreign_evidence r.state;
+    }
 
-pub evidence_whole : (ts : List Lexeme) (s : State) (t : Expression) → over evidence (Some (first_place evidence)) ts ≡ Some s → expression_in (ends (Some s)) ≡ Some t → IsEvidence ts t
+pub evidence_whole : (ts : List Lexeme) (s : State) (t : Expression) → over evidence (Some (first_place evidence)) ts ≡ Some s
+    → expression_in (ends (Some s)) ≡ Some t → IsEvidence ts t
 evidence_whole ts s t e q =
     let a = simple_over ts _ s e in
     let (n, x, y, w) = expression_whole ts s t (over_run _ ts ∙ sym (over_simple ts _ a) ∙ e) q in
@@ -150,7 +166,8 @@ close_simple (argument x ys ∷ s) v a b to h e = moved e (record { mode = tt; f
 close_simple [] v a b to h e = cc
 close_simple _ v a b to h e = absurd h
 
-on_simple : (m : Mode) (s : List Frame) (k : Kind) (c : Span) (to : State) → SimpleMode m → SimpleFrames s → is_simple k ≡ true → on m s k c ≡ Some to → IsSimple to
+on_simple : (m : Mode) (s : List Frame) (k : Kind) (c : Span) (to : State) → SimpleMode m → SimpleFrames s → is_simple k ≡ true
+    → on m s k c ≡ Some to → IsSimple to
 unfolding SimpleMode SimpleFrames
 on_simple want s (kind.name x) c to h f i e = moved e (record { mode = tt; frames = f })
 on_simple want s kind.opening c to h f i e = within_simple (depth s) _ to (record { mode = tt; frames = f }) e
@@ -170,7 +187,8 @@ over_is_simple : (ts : List Lexeme) (s z : State) → IsSimple s → over eviden
 over_is_simple [] s z h e = moved e h
 over_is_simple (t ∷ ts) s z h e =
     split_over evidence (IsSimple z) (next_place evidence s t) ts z
-    (λ y q p. let (i, w) = evidence_step (is_simple t.kind) (step s t) y q in over_is_simple ts y z (on_simple s.mode s.stack t.kind t.span y h.mode h.frames i w) p) e
+    (λ y q p. let (i, w) = evidence_step (is_simple t.kind) (step s t) y q in
+    over_is_simple ts y z (on_simple s.mode s.stack t.kind t.span y h.mode h.frames i w) p) e
 
 nowhere : Span
 nowhere = span 0 0
@@ -180,24 +198,30 @@ mutual
 
   closes_after : (s : List Frame) (v : Expression) (a b : ℕ) → SimpleFrames s → Ended evidence (at (after v a b) s)
   closes_after [] v a b h = record { tokens = []; place = at (after v a b) []; part = v; ran = refl; tree = refl }
-  closes_after (parenthesis f ∷ s) v a b h = ended_by evidence _ (at (after v f nowhere.to) s) (tok kind.closing nowhere) refl (closes_after s v f nowhere.to h)
-  closes_after (argument x ys ∷ s) v a b h = ended_by evidence _ (at (applying x (ys ++ (v ∷ [])) nowhere.to) s) (tok kind.closing nowhere) refl (closes_applying s x (ys ++ (v ∷ [])) nowhere.to h)
+  closes_after (parenthesis f ∷ s) v a b h = ended_by evidence _ (at (after v f nowhere.to) s) (tok kind.closing nowhere) refl
+      (closes_after s v f nowhere.to h)
+  closes_after (argument x ys ∷ s) v a b h = ended_by evidence _ (at (applying x (ys ++ (v ∷ [])) nowhere.to) s)
+      (tok kind.closing nowhere) refl (closes_applying s x (ys ++ (v ∷ [])) nowhere.to h)
   closes_after _ v a b h = absurd h
 
   closes_applying : (s : List Frame) (x : Name) (ys : List Expression) (b : ℕ) → SimpleFrames s → Ended evidence (at (applying x ys b) s)
   closes_applying [] x ys b h = record { tokens = []; place = at (applying x ys b) []; part = application x ys b; ran = refl; tree = refl }
-  closes_applying (parenthesis f ∷ s) x ys b h = ended_by evidence _ (at (after (application x ys b) f nowhere.to) s) (tok kind.closing nowhere) refl (closes_after s (application x ys b) f nowhere.to h)
+  closes_applying (parenthesis f ∷ s) x ys b h = ended_by evidence _ (at (after (application x ys b) f nowhere.to) s)
+      (tok kind.closing nowhere) refl (closes_after s (application x ys b) f nowhere.to h)
   closes_applying (argument y zs ∷ s) x ys b h =
-      ended_by evidence _ (at (applying y (zs ++ (application x ys b ∷ [])) nowhere.to) s) (tok kind.closing nowhere) refl (closes_applying s y (zs ++ (application x ys b ∷ [])) nowhere.to h)
+      ended_by evidence _ (at (applying y (zs ++ (application x ys b ∷ [])) nowhere.to) s) (tok kind.closing nowhere) refl
+      (closes_applying s y (zs ++ (application x ys b ∷ [])) nowhere.to h)
   closes_applying _ x ys b h = absurd h
 
 ended_at : (m : Mode) (s : List Frame) → SimpleMode m → SimpleFrames s → Ended evidence (at m s)
 unfolding SimpleMode
-ended_at want s h f = ended_by evidence _ (at (applying (named (120 ∷ []) nowhere) [] nowhere.to) s) (tok (kind.name (120 ∷ [])) nowhere) refl (closes_applying s (named (120 ∷ []) nowhere) [] nowhere.to f)
+ended_at want s h f = ended_by evidence _ (at (applying (named (120 ∷ []) nowhere) [] nowhere.to) s)
+    (tok (kind.name (120 ∷ [])) nowhere) refl (closes_applying s (named (120 ∷ []) nowhere) [] nowhere.to f)
 ended_at (applying x ys b) s h f = closes_applying s x ys b f
 ended_at (after v a b) s h f = closes_after s v a b f
 ended_at _ s h f = absurd h
 
 pub evidence_ended : (ts : List Lexeme) (s : State) → over evidence (Some (first_place evidence)) ts ≡ Some s → Ended evidence s
 unfolding SimpleMode SimpleFrames
-evidence_ended ts s e = let h = over_is_simple ts (first_place evidence) s (record { mode = tt; frames = tt }) e in ended_at s.mode s.stack h.mode h.frames
+evidence_ended ts s e = let h = over_is_simple ts (first_place evidence) s (record { mode = tt; frames = tt }) e in
+    ended_at s.mode s.stack h.mode h.frames

@@ -1,5 +1,6 @@
 -- The machines of names and of groups.
-use Rattle.std.proofs.Common.{◌≡◌, true, cond, nat_lt, List, [], ◌∷◌, ◌++◌, map, length, Option, Some, None, refl, sym, ap, ◌∙◌, subst, arith, append_assoc, append-nil, lt-ltb, length-append}
+use Rattle.std.proofs.Common.{◌≡◌, true, cond, nat_lt, List, [], ◌∷◌, ◌++◌, map, length, Option, Some, None, refl, sym, ap, ◌∙◌, subst}
+use Rattle.std.proofs.Common.{arith, append_assoc, append-nil, lt-ltb, length-append}
 use Rattle.std.proofs.lemmas.List.{map-append}
 use Rattle.vern_lex.specs.declared.span.Span.{Span}
 use Rattle.vern_grammar.specs.Trees.{Name, Group}
@@ -8,7 +9,8 @@ use Rattle.vern_grammar.specs.Kinds as kind
 use Rattle.vern_grammar.specs.Grammar.{tok, span, named, group}
 use Rattle.vern_grammar.proofs.Runs.{is_foreign}
 use Rattle.vern_sentence.specs.Sentences.{spelled, AreGroups, none, more}
-use Rattle.vern_sentence.specs.Slots.{names, groups, GroupPlace, between, inside, before_sort, behind_sort, on_group, whole_groups, name_in, name_of, one_more}
+use Rattle.vern_sentence.specs.Slots.{names, groups, GroupPlace, between, inside, before_sort, behind_sort, on_group, whole_groups, name_in}
+use Rattle.vern_sentence.specs.Slots.{name_of, one_more}
 use Rattle.vern_sentence.proofs.Signs.{some_out, name_is}
 use Rattle.vern_sentence.proofs.Parts.{over, over-append, over-None, split_over, Ran, Ended}
 
@@ -28,12 +30,14 @@ names_ran ts xs e = record { place = xs; ran = ap (over names (Some [])) e ∙ n
 none_some : {A : Type 0} (a : A) → None ≡ Some a → ⊥
 none_some a e = cc
 
-names_read : (ts : List Lexeme) (ys s : List Name) → over names (Some ys) ts ≡ Some s → (zs : List Name) × (s ≡ ys ++ zs) × (ts ≡ map spelled zs)
+names_read : (ts : List Lexeme) (ys s : List Name) → over names (Some ys) ts ≡ Some s
+    → (zs : List Name) × (s ≡ ys ++ zs) × (ts ≡ map spelled zs)
 names_read [] ys s e = ([], sym (some_out ys s e) ∙ sym (append-nil ys), refl)
 names_read (t ∷ ts) ys s e = by_name (name_of t) refl e (λ x p. names_read ts (ys ++ (x ∷ [])) s p)
   where
     by_name : (m : Option Name) → name_of t ≡ m → over names (one_more ys m) ts ≡ Some s →
-        ((x : Name) → over names (Some (ys ++ (x ∷ []))) ts ≡ Some s → (zs : List Name) × (s ≡ (ys ++ (x ∷ [])) ++ zs) × (ts ≡ map spelled zs)) →
+        ((x : Name) → over names (Some (ys ++ (x ∷ []))) ts ≡ Some s
+        → (zs : List Name) × (s ≡ (ys ++ (x ∷ [])) ++ zs) × (ts ≡ map spelled zs)) →
         (zs : List Name) × (s ≡ ys ++ zs) × (t ∷ ts ≡ map spelled zs)
     by_name None h p f = absurd (none_some s (sym (over-None names ts) ∙ p))
     by_name (Some x) h p f =
@@ -54,14 +58,19 @@ inside_over gs (x ∷ xs) ys = inside_over gs xs (ys ++ (x ∷ [])) ∙ ap (λ l
 
 -- behind a name at least, `:`, the sort and `)`
 sort_over : (gs : List Group) (x : Name) (xs : List Name) (sort : Name) (b c : Span) →
-    over groups (Some (inside gs (x ∷ xs))) (tok kind.colon b ∷ spelled sort ∷ tok kind.closing c ∷ []) ≡ Some (between (gs ++ (group (x ∷ xs) sort ∷ [])))
-sort_over gs x xs sort b c = ap (λ y. over groups (cond y (Some (before_sort gs (x ∷ xs))) None) (spelled sort ∷ tok kind.closing c ∷ [])) (lt-ltb 0 (length (x ∷ xs)) (omega arith))
+    over groups (Some (inside gs (x ∷ xs))) (tok kind.colon b ∷ spelled sort ∷ tok kind.closing c ∷ [])
+    ≡ Some (between (gs ++ (group (x ∷ xs) sort ∷ [])))
+sort_over gs x xs sort b c = ap (λ y. over groups (cond y (Some (before_sort gs (x ∷ xs))) None) (spelled sort ∷ tok kind.closing c ∷ []))
+    (lt-ltb 0 (length (x ∷ xs)) (omega arith))
 
 groups_over : {ts : List Lexeme} {gs : List Group} → AreGroups ts gs → over groups (Some (between [])) ts ≡ Some (between gs)
 groups_over none = refl
 groups_over (more {ts = ts} {gs = gs} x xs sort a b c w) =
-    over-append groups _ ts _ ∙ ap (λ m. over groups m (tok kind.opening a ∷ (map spelled (x ∷ xs) ++ (tok kind.colon b ∷ spelled sort ∷ tok kind.closing c ∷ [])))) (groups_over w)
-    ∙ over-append groups (Some (inside gs [])) (map spelled (x ∷ xs)) _ ∙ ap (λ m. over groups m (tok kind.colon b ∷ spelled sort ∷ tok kind.closing c ∷ [])) (inside_over gs (x ∷ xs) []) ∙ sort_over gs x xs sort b c
+    over-append groups _ ts _ ∙ ap (λ m. over groups m
+    (tok kind.opening a ∷ (map spelled (x ∷ xs) ++ (tok kind.colon b ∷ spelled sort ∷ tok kind.closing c ∷ [])))) (groups_over w)
+    ∙ over-append groups (Some (inside gs [])) (map spelled (x ∷ xs)) _
+    ∙ ap (λ m. over groups m (tok kind.colon b ∷ spelled sort ∷ tok kind.closing c ∷ [])) (inside_over gs (x ∷ xs) [])
+    ∙ sort_over gs x xs sort b c
 
 groups_foreign : (gs : List Group) (k : Kind) (c : Span) → is_foreign k ≡ true → on_group (between gs) (tok k c) k ≡ None
 groups_foreign gs kind.opening c e = cc
@@ -73,7 +82,8 @@ groups_ran ts gs w = record { place = between gs; ran = groups_over w; tree = re
 -- what a place has read
 data HasRead : GroupPlace → List Lexeme → Type 0 where
   read_between : {ts : List Lexeme} {gs : List Group} → AreGroups ts gs → HasRead (between gs) ts
-  read_names : {ts : List Lexeme} {gs : List Group} (xs : List Name) (a : Span) → AreGroups ts gs → HasRead (inside gs xs) (ts ++ (tok kind.opening a ∷ map spelled xs))
+  read_names : {ts : List Lexeme} {gs : List Group} (xs : List Name) (a : Span) → AreGroups ts gs
+      → HasRead (inside gs xs) (ts ++ (tok kind.opening a ∷ map spelled xs))
   read_colon : {ts : List Lexeme} {gs : List Group} (x : Name) (xs : List Name) (a b : Span) → AreGroups ts gs →
       HasRead (before_sort gs (x ∷ xs)) (ts ++ (tok kind.opening a ∷ (map spelled (x ∷ xs) ++ (tok kind.colon b ∷ []))))
   read_sort : {ts : List Lexeme} {gs : List Group} (x : Name) (xs : List Name) (sort : Name) (a b : Span) → AreGroups ts gs →
@@ -85,31 +95,44 @@ moved {x = x} {to = to} {ts = ts} e h = subst (λ y. HasRead y ts) (some_out x t
 regrouped : {to : GroupPlace} {ts us : List Lexeme} → ts ≡ us → HasRead to ts → HasRead to us
 regrouped {to = to} e h = subst (λ l. HasRead to l) e h
 
-one_name : {ts : List Lexeme} {gs : List Group} (xs : List Name) (x : Name) (a : Span) (to : GroupPlace) → AreGroups ts gs → Some (inside gs (xs ++ (x ∷ []))) ≡ Some to →
+one_name : {ts : List Lexeme} {gs : List Group} (xs : List Name) (x : Name) (a : Span) (to : GroupPlace) → AreGroups ts gs
+    → Some (inside gs (xs ++ (x ∷ []))) ≡ Some to →
     HasRead to ((ts ++ (tok kind.opening a ∷ map spelled xs)) ++ (spelled x ∷ []))
 one_name {ts = ts} xs x a to w e =
-    regrouped (ap (λ l. ts ++ (tok kind.opening a ∷ l)) (map-append spelled xs (x ∷ [])) ∙ sym (append_assoc ts (tok kind.opening a ∷ map spelled xs) (spelled x ∷ []))) (moved e (read_names (xs ++ (x ∷ [])) a w))
+    regrouped (ap (λ l. ts ++ (tok kind.opening a ∷ l)) (map-append spelled xs (x ∷ []))
+    ∙ sym (append_assoc ts (tok kind.opening a ∷ map spelled xs) (spelled x ∷ []))) (moved e (read_names (xs ++ (x ∷ [])) a w))
 
-one_colon : {ts : List Lexeme} {gs : List Group} (xs : List Name) (a b : Span) (to : GroupPlace) → AreGroups ts gs → cond (nat_lt 0 (length xs)) (Some (before_sort gs xs)) None ≡ Some to →
+one_colon : {ts : List Lexeme} {gs : List Group} (xs : List Name) (a b : Span) (to : GroupPlace) → AreGroups ts gs
+    → cond (nat_lt 0 (length xs)) (Some (before_sort gs xs)) None ≡ Some to →
     HasRead to ((ts ++ (tok kind.opening a ∷ map spelled xs)) ++ (tok kind.colon b ∷ []))
 one_colon [] a b to w e = cc
 one_colon {ts = ts} {gs = gs} (x ∷ xs) a b to w e =
     regrouped (sym (append_assoc ts (tok kind.opening a ∷ map spelled (x ∷ xs)) (tok kind.colon b ∷ [])))
-    (moved (ap (λ y. cond y (Some (before_sort gs (x ∷ xs))) None) (sym (lt-ltb 0 (length (x ∷ xs)) (omega arith))) ∙ e) (read_colon x xs a b w))
+    (moved (ap (λ y. cond y (Some (before_sort gs (x ∷ xs))) None) (sym (lt-ltb 0 (length (x ∷ xs)) (omega arith)))
+    ∙ e) (read_colon x xs a b w))
 
-one_sort : {ts : List Lexeme} {gs : List Group} (x : Name) (xs : List Name) (sort : Name) (a b : Span) (to : GroupPlace) → AreGroups ts gs → Some (behind_sort gs (x ∷ xs) sort) ≡ Some to →
+one_sort : {ts : List Lexeme} {gs : List Group} (x : Name) (xs : List Name) (sort : Name) (a b : Span) (to : GroupPlace) → AreGroups ts gs
+    → Some (behind_sort gs (x ∷ xs) sort) ≡ Some to →
     HasRead to ((ts ++ (tok kind.opening a ∷ (map spelled (x ∷ xs) ++ (tok kind.colon b ∷ [])))) ++ (spelled sort ∷ []))
 one_sort {ts = ts} x xs sort a b to w e =
-    regrouped (ap (λ l. ts ++ (tok kind.opening a ∷ l)) (sym (append_assoc (map spelled (x ∷ xs)) (tok kind.colon b ∷ []) (spelled sort ∷ []))) ∙ sym (append_assoc ts (tok kind.opening a ∷ (map spelled (x ∷ xs) ++ (tok kind.colon b ∷ []))) (spelled sort ∷ [])))
+    regrouped (ap (λ l. ts ++ (tok kind.opening a ∷ l))
+    (sym (append_assoc (map spelled (x ∷ xs)) (tok kind.colon b ∷ []) (spelled sort ∷ [])))
+    ∙ sym (append_assoc ts (tok kind.opening a ∷ (map spelled (x ∷ xs) ++ (tok kind.colon b ∷ []))) (spelled sort ∷ [])))
     (moved e (read_sort x xs sort a b w))
 
-one_group : {ts : List Lexeme} {gs : List Group} (x : Name) (xs : List Name) (sort : Name) (a b c : Span) (to : GroupPlace) → AreGroups ts gs → Some (between (gs ++ (group (x ∷ xs) sort ∷ []))) ≡ Some to →
-    HasRead to ((ts ++ (tok kind.opening a ∷ (map spelled (x ∷ xs) ++ (tok kind.colon b ∷ spelled sort ∷ [])))) ++ (tok kind.closing c ∷ []))
+one_group : {ts : List Lexeme} {gs : List Group} (x : Name) (xs : List Name) (sort : Name) (a b c : Span) (to : GroupPlace)
+    → AreGroups ts gs → Some (between (gs ++ (group (x ∷ xs) sort ∷ []))) ≡ Some to →
+    HasRead to ((ts ++ (tok kind.opening a ∷ (map spelled (x ∷ xs) ++ (tok kind.colon b ∷ spelled sort ∷ [])))) ++
+    (tok kind.closing c ∷ []))
 one_group {ts = ts} x xs sort a b c to w e =
-    regrouped (ap (λ l. ts ++ (tok kind.opening a ∷ l)) (sym (append_assoc (map spelled (x ∷ xs)) (tok kind.colon b ∷ spelled sort ∷ []) (tok kind.closing c ∷ []))) ∙ sym (append_assoc ts (tok kind.opening a ∷ (map spelled (x ∷ xs) ++ (tok kind.colon b ∷ spelled sort ∷ []))) (tok kind.closing c ∷ [])))
+    regrouped (ap (λ l. ts ++ (tok kind.opening a ∷ l))
+    (sym (append_assoc (map spelled (x ∷ xs)) (tok kind.colon b ∷ spelled sort ∷ []) (tok kind.closing c ∷ [])))
+    ∙ sym (append_assoc ts (tok kind.opening a ∷ (map spelled (x ∷ xs) ++ (tok kind.colon b ∷ spelled sort ∷ [])))
+    (tok kind.closing c ∷ [])))
     (moved e (read_between (more x xs sort a b c w)))
 
-group_step : {s : GroupPlace} {ts : List Lexeme} → HasRead s ts → (k : Kind) (c : Span) (to : GroupPlace) → on_group s (tok k c) k ≡ Some to → HasRead to (ts ++ (tok k c ∷ []))
+group_step : {s : GroupPlace} {ts : List Lexeme} → HasRead s ts → (k : Kind) (c : Span) (to : GroupPlace) → on_group s (tok k c) k ≡ Some to
+    → HasRead to (ts ++ (tok k c ∷ []))
 group_step (read_between w) kind.opening c to e = moved e (read_names [] c w)
 group_step (read_between w) _ c to e = cc
 group_step (read_names xs a w) (kind.name x) c to e = one_name xs (named x c) a to w e
@@ -120,16 +143,19 @@ group_step (read_colon x xs a b w) _ c to e = cc
 group_step (read_sort x xs sort a b w) kind.closing c to e = one_group x xs sort a b c to w e
 group_step (read_sort x xs sort a b w) _ c to e = cc
 
-group_reads : (us : List Lexeme) {s : GroupPlace} {ts : List Lexeme} → HasRead s ts → (to : GroupPlace) → over groups (Some s) us ≡ Some to → HasRead to (ts ++ us)
+group_reads : (us : List Lexeme) {s : GroupPlace} {ts : List Lexeme} → HasRead s ts → (to : GroupPlace) → over groups (Some s) us ≡ Some to
+    → HasRead to (ts ++ us)
 group_reads [] {s = s} {ts = ts} h to p = regrouped (sym (append-nil ts)) (moved p h)
 group_reads (u ∷ us) {s = s} {ts = ts} h to p =
-    split_over groups (HasRead to (ts ++ (u ∷ us))) (on_group s u u.kind) us to (λ mid e q. regrouped (append_assoc ts (u ∷ []) us) (group_reads us (group_step h u.kind u.span mid e) to q)) p
+    split_over groups (HasRead to (ts ++ (u ∷ us))) (on_group s u u.kind) us to
+    (λ mid e q. regrouped (append_assoc ts (u ∷ []) us) (group_reads us (group_step h u.kind u.span mid e) to q)) p
 
 groups_of : {s : GroupPlace} {ts : List Lexeme} → HasRead s ts → (gs : List Group) → whole_groups s ≡ Some gs → AreGroups ts gs
 groups_of {ts = ts} (read_between {gs = hs} w) gs e = subst (λ l. AreGroups ts l) (some_out hs gs e) w
 groups_of _ gs e = cc
 
-pub groups_whole : (ts : List Lexeme) (s : GroupPlace) (gs : List Group) → over groups (Some (between [])) ts ≡ Some s → whole_groups s ≡ Some gs → AreGroups ts gs
+pub groups_whole : (ts : List Lexeme) (s : GroupPlace) (gs : List Group) → over groups (Some (between [])) ts ≡ Some s
+    → whole_groups s ≡ Some gs → AreGroups ts gs
 groups_whole ts s gs e q = groups_of (group_reads ts (read_between none) s e) gs q
 
 -- the tokens that finish a group have no place
@@ -145,8 +171,23 @@ groups_ended (inside gs xs) = record {
   tokens = spelled any_name ∷ tok kind.colon (span 0 0) ∷ spelled any_name ∷ tok kind.closing (span 0 0) ∷ [];
   place = between (gs ++ (group (xs ++ (any_name ∷ [])) any_name ∷ []));
   part = gs ++ (group (xs ++ (any_name ∷ [])) any_name ∷ []);
-  ran = ap (λ y. over groups (cond y (Some (before_sort gs (xs ++ (any_name ∷ [])))) None) (spelled any_name ∷ tok kind.closing (span 0 0) ∷ [])) (not_empty xs any_name);
+  ran = ap (λ y. over groups (cond y (Some (before_sort gs (xs ++ (any_name ∷ [])))) None)
+      (spelled any_name ∷ tok kind.closing (span 0 0) ∷ [])) (not_empty xs any_name);
   tree = refl;
 }
-groups_ended (before_sort gs xs) = record { tokens = spelled any_name ∷ tok kind.closing (span 0 0) ∷ []; place = between (gs ++ (group xs any_name ∷ [])); part = gs ++ (group xs any_name ∷ []); ran = refl; tree = refl }
-groups_ended (behind_sort gs xs sort) = record { tokens = tok kind.closing (span 0 0) ∷ []; place = between (gs ++ (group xs sort ∷ [])); part = gs ++ (group xs sort ∷ []); ran = refl; tree = refl }
+groups_ended (before_sort gs xs) = record {
+  tokens = spelled any_name ∷ tok kind.closing (span 0 0) ∷ [];
+  place =
+      between (gs ++ (group xs any_name ∷ []));
+  part = gs ++ (group xs any_name ∷ []);
+  ran = refl;
+  tree = refl;
+}
+groups_ended (behind_sort gs xs sort) = record {
+  tokens = tok kind.closing (span 0 0) ∷ [];
+  place =
+      between (gs ++ (group xs sort ∷ []));
+  part = gs ++ (group xs sort ∷ []);
+  ran = refl;
+  tree = refl;
+}

@@ -32,7 +32,8 @@ none_some : {A : Type 0} (a : A) → None ≡ Some a → ⊥
 none_some a e = cc
 
 -- a place that is reached from a place, or from none
-pub split_over : (i : Slot) (A : Type 0) (m : Option (Place i)) (us : List Lexeme) (to : Place i) → ((mid : Place i) → m ≡ Some mid → over i (Some mid) us ≡ Some to → A) → over i m us ≡ Some to → A
+pub split_over : (i : Slot) (A : Type 0) (m : Option (Place i)) (us : List Lexeme) (to : Place i)
+    → ((mid : Place i) → m ≡ Some mid → over i (Some mid) us ≡ Some to → A) → over i m us ≡ Some to → A
 split_over i A None us to f p = absurd (none_some to (sym (over-None i us) ∙ p))
 split_over i A (Some mid) us to f p = f mid refl p
 
@@ -52,7 +53,14 @@ pub record Ended (i : Slot) (s : Place i) : Type 0 where
   pub tree : tree_at i place ≡ Some part
 
 pub ended_by : (i : Slot) (s to : Place i) (t : Lexeme) → next_place i s t ≡ Some to → Ended i to → Ended i s
-ended_by i s to t e f = record { tokens = t ∷ f.tokens; place = f.place; part = f.part; ran = ap (λ m. over i m f.tokens) e ∙ f.ran; tree = f.tree }
+ended_by i s to t e f = record {
+  tokens = t ∷ f.tokens;
+  place = f.place;
+  part = f.part;
+  ran = ap (λ m. over i m f.tokens) e ∙ f.ran;
+  tree =
+      f.tree;
+}
 
 -- ---- expressions and shapes
 
@@ -90,19 +98,26 @@ shape_out (Some (a_shape u)) t e = cc
 shape_out (Some (an_expression u)) t e = cc
 shape_out None t e = cc
 
-phrase_of : (ts : List Lexeme) (t : Expression) (p : Phrase) → Some p ≡ Some (an_expression t) → ((u : Expression) × (p ≡ an_expression u) × IsExpression ts u) → IsExpression ts t
+phrase_of : (ts : List Lexeme) (t : Expression) (p : Phrase) → Some p ≡ Some (an_expression t)
+    → ((u : Expression) × (p ≡ an_expression u) × IsExpression ts u) → IsExpression ts t
 phrase_of ts t p e (u, h, w) = let q : u ≡ t = cc in subst (λ x. IsExpression ts x) q w
 
-shape_phrase_of : (ts : List Lexeme) (t : Shape) (p : Phrase) → Some p ≡ Some (a_shape t) → ((u : Shape) × (p ≡ a_shape u) × IsShape ts u) → IsShape ts t
+shape_phrase_of : (ts : List Lexeme) (t : Shape) (p : Phrase) → Some p ≡ Some (a_shape t) → ((u : Shape) × (p ≡ a_shape u) × IsShape ts u)
+    → IsShape ts t
 shape_phrase_of ts t p e (u, h, w) = let q : u ≡ t = cc in subst (λ x. IsShape ts x) q w
 
-pub expression_whole : (ts : List Lexeme) (s : State) (t : Expression) → over expression (Some (first_place expression)) ts ≡ Some s → expression_in (ends (Some s)) ≡ Some t → IsExpression ts t
-expression_whole ts s t e q = phrase_of ts t (an_expression t) refl (laws.expression_given ts (an_expression t) (ap ends (sym (over_run _ ts) ∙ e) ∙ expression_out (ends (Some s)) t q))
+pub expression_whole : (ts : List Lexeme) (s : State) (t : Expression) → over expression (Some (first_place expression)) ts ≡ Some s
+    → expression_in (ends (Some s)) ≡ Some t → IsExpression ts t
+expression_whole ts s t e q = phrase_of ts t (an_expression t) refl
+    (laws.expression_given ts (an_expression t) (ap ends (sym (over_run _ ts) ∙ e) ∙ expression_out (ends (Some s)) t q))
 
-pub shape_whole : (ts : List Lexeme) (s : State) (t : Shape) → over shape (Some (first_place shape)) ts ≡ Some s → shape_in (ends (Some s)) ≡ Some t → IsShape ts t
-shape_whole ts s t e q = shape_phrase_of ts t (a_shape t) refl (laws.shape_given ts (a_shape t) (ap ends (sym (over_shape_run _ ts) ∙ e) ∙ shape_out (ends (Some s)) t q))
+pub shape_whole : (ts : List Lexeme) (s : State) (t : Shape) → over shape (Some (first_place shape)) ts ≡ Some s
+    → shape_in (ends (Some s)) ≡ Some t → IsShape ts t
+shape_whole ts s t e q = shape_phrase_of ts t (a_shape t) refl
+    (laws.shape_given ts (a_shape t) (ap ends (sym (over_shape_run _ ts) ∙ e) ∙ shape_out (ends (Some s)) t q))
 
-ends_expression : (s : State) (ls : List Lexeme) (t : Expression) (m : Option State) → run (Some s) ls ≡ m → ends m ≡ Some (an_expression t) → Ended expression s
+ends_expression : (s : State) (ls : List Lexeme) (t : Expression) (m : Option State) → run (Some s) ls ≡ m → ends m ≡ Some (an_expression t)
+    → Ended expression s
 ends_expression s ls t (Some z) e p = record { tokens = ls; place = z; part = t; ran = over_run _ ls ∙ e; tree = ap expression_in p }
 ends_expression s ls t None e p = cc
 
@@ -115,8 +130,10 @@ expression_ended ts s e = by (sym (over_run _ ts) ∙ e)
   where
     by_found : run (start []) ts ≡ Some s → GoesOn for_expression ts → Ended expression s
     by_found p g =
-        let (t, h, w) = laws.expression_given (ts ++ g.tokens) g.phrase (laws.found_read for_expression (ts ++ g.tokens) g.phrase g.found) in
-        ends_expression s g.tokens t (run (Some s) g.tokens) refl (ap (λ m. ends (run m g.tokens)) (sym p) ∙ ap ends (sym (run-append (start []) ts g.tokens)) ∙ laws.expression_read (ts ++ g.tokens) t w)
+        let (t, h, w) = laws.expression_given (ts ++ g.tokens) g.phrase
+        (laws.found_read for_expression (ts ++ g.tokens) g.phrase g.found) in
+        ends_expression s g.tokens t (run (Some s) g.tokens) refl (ap (λ m. ends (run m g.tokens)) (sym p)
+        ∙ ap ends (sym (run-append (start []) ts g.tokens)) ∙ laws.expression_read (ts ++ g.tokens) t w)
 
     by : run (start []) ts ≡ Some s → Ended expression s
     by p = by_found p (goes_on for_expression ts s p)
@@ -127,7 +144,8 @@ shape_ended ts s e = by (sym (over_shape_run _ ts) ∙ e)
     by_found : run (start (outline ∷ [])) ts ≡ Some s → GoesOn for_shape ts → Ended shape s
     by_found p g =
         let (t, h, w) = laws.shape_given (ts ++ g.tokens) g.phrase (laws.found_read for_shape (ts ++ g.tokens) g.phrase g.found) in
-        ends_shape s g.tokens t (run (Some s) g.tokens) refl (ap (λ m. ends (run m g.tokens)) (sym p) ∙ ap ends (sym (run-append (start (outline ∷ [])) ts g.tokens)) ∙ laws.shape_read (ts ++ g.tokens) t w)
+        ends_shape s g.tokens t (run (Some s) g.tokens) refl (ap (λ m. ends (run m g.tokens)) (sym p)
+        ∙ ap ends (sym (run-append (start (outline ∷ [])) ts g.tokens)) ∙ laws.shape_read (ts ++ g.tokens) t w)
 
     by : run (start (outline ∷ [])) ts ≡ Some s → Ended shape s
     by p = by_found p (goes_on for_shape ts s p)

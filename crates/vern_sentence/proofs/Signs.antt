@@ -1,5 +1,6 @@
 -- A token that passes a test is the one that is tested for.
-use Rattle.std.proofs.Common.{◌≡◌, ℕ, Bool, true, false, ◌⊎◌, inl, inr, List, [], ◌∷◌, ◌++◌, nat_eq, Option, Some, None, refl, sym, ap, ◌∙◌, if◌then◌else◌}
+use Rattle.std.proofs.Common.{◌≡◌, ℕ, Bool, true, false, ◌⊎◌, inl, inr, List, [], ◌∷◌, ◌++◌, nat_eq, Option, Some, None, refl, sym, ap, ◌∙◌}
+use Rattle.std.proofs.Common.{if◌then◌else◌}
 use Rattle.std.specs.Cmp.Lexicographic.{pointwise, same_text}
 use Rattle.vern_lex.specs.declared.span.Span.{Span}
 use Rattle.vern_lex.specs.declared.token.TokenKind.{TokenKind}
@@ -9,7 +10,9 @@ use Rattle.vern_grammar.specs.Kinds.{Kind, Lexeme, kind_of}
 use Rattle.vern_grammar.specs.Kinds as kind
 use Rattle.vern_grammar.specs.Grammar.{tok, named}
 use Rattle.vern_sentence.specs.Sentences.{spelled}
-use Rattle.vern_sentence.specs.Words.{Word, exists, bullet, brace_in, brace_out, named_words, spelling, leading, word_among, word_of, Sign, full_stop, define, as_word, in_word, left_bracket, right_bracket, bar, back_arrow, arrow, colon, opening, prop_word, sign_token, sign_kind, is_other, is_sign}
+use Rattle.vern_sentence.specs.Words.{Word, exists, bullet, brace_in, brace_out, named_words, spelling, leading, word_among, word_of, Sign}
+use Rattle.vern_sentence.specs.Words.{full_stop, define, as_word, in_word, left_bracket, right_bracket, bar, back_arrow, arrow, colon}
+use Rattle.vern_sentence.specs.Words.{opening, prop_word, sign_token, sign_kind, is_other, is_sign}
 use Rattle.vern_sentence.specs.Slots.{name_in, name_of}
 
 pub some_out : {A : Type 0} (x y : A) → Some x ≡ Some y → x ≡ y
@@ -39,20 +42,6 @@ kind_is _ _ e = cc
 pub sign_is : (s : Sign) (k : Lexeme) → is_sign s k.kind ≡ true → k ≡ tok (sign_kind s) k.span
 sign_is s k e = ap (λ x. tok x k.span) (kind_is s k.kind e)
 
-pub sign_found : (s : Sign) → is_sign s (sign_kind s) ≡ true
-sign_found full_stop = refl
-sign_found define = refl
-sign_found as_word = refl
-sign_found in_word = refl
-sign_found left_bracket = refl
-sign_found right_bracket = refl
-sign_found bar = refl
-sign_found back_arrow = refl
-sign_found arrow = refl
-sign_found colon = refl
-sign_found opening = refl
-sign_found prop_word = refl
-
 -- ---- names
 
 name_at : (d : Kind) (c : Span) (x : Name) → name_in d (tok d c) ≡ Some x → tok d c ≡ spelled x
@@ -71,14 +60,8 @@ named_or_empty brace_in = inr refl
 named_or_empty brace_out = inr refl
 named_or_empty _ = inl refl
 
-pub word_leads : (w : Word) → word_of (leading w) ≡ Some w
-word_leads exists = refl
-word_leads bullet = refl
-word_leads brace_in = refl
-word_leads brace_out = refl
-word_leads _ = refl
-
-among_by : (x : List ℕ) (v w : Word) (ws : List Word) (b : Bool) → pointwise nat_eq x (spelling v) ≡ b → (if b then Some v else word_among x ws) ≡ Some w → (word_among x ws ≡ Some w → x ≡ spelling w) → x ≡ spelling w
+among_by : (x : List ℕ) (v w : Word) (ws : List Word) (b : Bool) → pointwise nat_eq x (spelling v) ≡ b
+    → (if b then Some v else word_among x ws) ≡ Some w → (word_among x ws ≡ Some w → x ≡ spelling w) → x ≡ spelling w
 among_by x v w ws true h p f = same_text x (spelling v) (sym h) ∙ ap spelling (some_out v w p)
 among_by x v w ws false h p f = f p
 
@@ -91,7 +74,8 @@ abbrev pub or_word : Option Word → Option Word → Option Word
 or_word None m = m
 or_word (Some w) m = Some w
 
-among_both : (x : List ℕ) (v : Word) (ws vs : List Word) (b : Bool) → word_among x (ws ++ vs) ≡ or_word (word_among x ws) (word_among x vs) →
+among_both : (x : List ℕ) (v : Word) (ws vs : List Word) (b : Bool)
+    → word_among x (ws ++ vs) ≡ or_word (word_among x ws) (word_among x vs) →
     (if b then Some v else word_among x (ws ++ vs)) ≡ or_word (if b then Some v else word_among x ws) (word_among x vs)
 among_both x v ws vs true e = refl
 among_both x v ws vs false e = e
@@ -118,47 +102,3 @@ word_at _ w e = cc
 
 pub word_is : (k : Lexeme) (w : Word) → word_of k.kind ≡ Some w → k ≡ tok (leading w) k.span
 word_is k w e = ap (λ x. tok x k.span) (word_at k.kind w e)
-
--- ---- the kinds of vern_lex
-
-token_in : Kind → TokenKind
-token_in (kind.name x) = token.Name
-token_in (kind.constant true) = token.True
-token_in (kind.constant false) = token.False
-token_in (kind.sign implication) = token.Arrow
-token_in (kind.sign equivalence) = token.Iff
-token_in (kind.sign disjunction) = token.Or
-token_in (kind.sign conjunction) = token.And
-token_in (kind.sign equation) = token.Equal
-token_in (kind.sign inequation) = token.NotEqual
-token_in (kind.quantifier true) = token.Forall
-token_in (kind.quantifier false) = token.Exists
-token_in kind.tilde = token.Not
-token_in kind.opening = token.LeftParenthesis
-token_in kind.closing = token.RightParenthesis
-token_in kind.colon = token.Colon
-token_in kind.comma = token.Comma
-token_in kind.set = token.Set
-token_in kind.prop = token.Prop
-token_in (kind.other t) = t
-
-token_back : (t : TokenKind) (x : List ℕ) → token_in (kind_of t x) ≡ t
-unfolding token_in
-token_back token.Name x = refl
-token_back _ x = refl
-
-sign_back : (s : Sign) → token_in (sign_kind s) ≡ sign_token s
-unfolding token_in
-sign_back full_stop = refl
-sign_back _ = refl
-
-pub sign_yes : (s : Sign) (x : List ℕ) → is_sign s (kind_of (sign_token s) x) ≡ true
-sign_yes full_stop x = refl
-sign_yes _ x = refl
-
-pub sign_no : (s : Sign) (t : TokenKind) (x : List ℕ) → (t ≡ sign_token s → ⊥) → is_sign s (kind_of t x) ≡ false
-sign_no s t x h = by_test (is_sign s (kind_of t x)) refl
-  where
-    by_test : (b : Bool) → is_sign s (kind_of t x) ≡ b → is_sign s (kind_of t x) ≡ false
-    by_test false e = e
-    by_test true e = absurd (h (sym (token_back t x) ∙ ap token_in (kind_is s (kind_of t x) e) ∙ sign_back s))

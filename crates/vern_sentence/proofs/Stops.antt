@@ -8,7 +8,8 @@ use Rattle.vern_sentence.specs.Slots.{Slot, Tree, Place, first_place, tree_at, c
 use Rattle.vern_sentence.specs.Patterns.{Pattern, done, fixed, name, slot, option, reading}
 use Rattle.vern_sentence.proofs.Signs.{sign_is, name_is}
 use Rattle.vern_sentence.proofs.Machines.{part_whole, part_ended, cut_over, CutAt, cut_is}
-use Rattle.vern_sentence.proofs.Readings.{Reads, sign_reads, name_reads, part_reads, takes, passes, left_with, at_cut, at_tree, at_sign, at_choice, at_name, example, part_example}
+use Rattle.vern_sentence.proofs.Readings.{Reads, sign_reads, name_reads, part_reads, takes, passes, left_with, at_cut, at_tree, at_sign}
+use Rattle.vern_sentence.proofs.Readings.{at_choice, at_name, example, part_example}
 
 pub record Stuck (p : Pattern) (ts rest : List Lexeme) : Type 0 where
   pub front : List Lexeme
@@ -30,7 +31,8 @@ no_token (f ∷ front) k ks e = cc
 
 -- ---- at the first token
 
-here : (p : Pattern) (ts rest : List Lexeme) → left_with ts ≡ Err rest → ((k : Lexeme) (ks ls : List Lexeme) → ts ≡ k ∷ ks → reading p (k ∷ ls) ≡ Err (k ∷ ls)) → Stuck p ts rest
+here : (p : Pattern) (ts rest : List Lexeme) → left_with ts ≡ Err rest
+    → ((k : Lexeme) (ks ls : List Lexeme) → ts ≡ k ∷ ks → reading p (k ∷ ls) ≡ Err (k ∷ ls)) → Stuck p ts rest
 here p ts rest e f =
     let x = example p in
     let q = stuck_out ts rest e in
@@ -44,7 +46,8 @@ same_name k j ks js h e = subst (λ i. name_of i ≡ None) (same_head k j ks js 
 
 -- ---- further behind
 
-sign_more : (s : Sign) (p : Pattern) (k : Lexeme) (ks rest : List Lexeme) → is_sign s k.kind ≡ true → Stuck p ks rest → Stuck (fixed s p) (k ∷ ks) rest
+sign_more : (s : Sign) (p : Pattern) (k : Lexeme) (ks rest : List Lexeme) → is_sign s k.kind ≡ true → Stuck p ks rest
+    → Stuck (fixed s p) (k ∷ ks) rest
 sign_more s p k ks rest h x = record {
   front = k ∷ x.front;
   split = ap (λ l. k ∷ l) x.split;
@@ -54,7 +57,8 @@ sign_more s p k ks rest h x = record {
   stays = λ j js ls e. ap (at_sign p k (x.front ++ (j ∷ ls))) h ∙ x.stays j js ls e;
 }
 
-name_more : (f : Name → Pattern) (k : Lexeme) (ks rest : List Lexeme) (x : Name) → name_of k ≡ Some x → Stuck (f x) ks rest → Stuck (name f) (k ∷ ks) rest
+name_more : (f : Name → Pattern) (k : Lexeme) (ks rest : List Lexeme) (x : Name) → name_of k ≡ Some x → Stuck (f x) ks rest
+    → Stuck (name f) (k ∷ ks) rest
 name_more f k ks rest x h y = record {
   front = k ∷ y.front;
   split = ap (λ l. k ∷ l) y.split;
@@ -64,7 +68,8 @@ name_more f k ks rest x h y = record {
   stays = λ j js ls e. ap (at_name f k (y.front ++ (j ∷ ls))) h ∙ y.stays j js ls e;
 }
 
-takes_more : (s : Sign) (p q : Pattern) (k : Lexeme) (ks rest : List Lexeme) → is_sign s k.kind ≡ true → Stuck p ks rest → Stuck (option s p q) (k ∷ ks) rest
+takes_more : (s : Sign) (p q : Pattern) (k : Lexeme) (ks rest : List Lexeme) → is_sign s k.kind ≡ true → Stuck p ks rest
+    → Stuck (option s p q) (k ∷ ks) rest
 takes_more s p q k ks rest h x = record {
   front = k ∷ x.front;
   split = ap (λ l. k ∷ l) x.split;
@@ -74,12 +79,14 @@ takes_more s p q k ks rest h x = record {
   stays = λ j js ls e. ap (at_choice p q k (x.front ++ (j ∷ ls))) h ∙ x.stays j js ls e;
 }
 
-passes_first : (s : Sign) (p q : Pattern) (k : Lexeme) (ks front : List Lexeme) (j : Lexeme) (js ls : List Lexeme) → is_sign s k.kind ≡ false → k ∷ ks ≡ front ++ (j ∷ js) →
+passes_first : (s : Sign) (p q : Pattern) (k : Lexeme) (ks front : List Lexeme) (j : Lexeme) (js ls : List Lexeme)
+    → is_sign s k.kind ≡ false → k ∷ ks ≡ front ++ (j ∷ js) →
     reading (option s p q) (front ++ (j ∷ ls)) ≡ reading q (front ++ (j ∷ ls))
 passes_first s p q k ks [] j js ls h e = ap (at_choice p q j ls) (same_test s k j ks js h e)
 passes_first s p q k ks (i ∷ front) j js ls h e = ap (at_choice p q i (front ++ (j ∷ ls))) (same_test s k i ks (front ++ (j ∷ js)) h e)
 
-passes_more : (s : Sign) (p q : Pattern) (k : Lexeme) (ks rest : List Lexeme) → is_sign s k.kind ≡ false → Stuck q (k ∷ ks) rest → Stuck (option s p q) (k ∷ ks) rest
+passes_more : (s : Sign) (p q : Pattern) (k : Lexeme) (ks rest : List Lexeme) → is_sign s k.kind ≡ false → Stuck q (k ∷ ks) rest
+    → Stuck (option s p q) (k ∷ ks) rest
 passes_more s p q k ks rest h x = record {
   front = x.front;
   split = x.split;
@@ -101,7 +108,8 @@ passes_end s p q rest x = record {
 
 -- ---- in a part, and behind it
 
-in_part : (i : Slot) (f : Tree i → Pattern) (ts : List Lexeme) (w : Place i × List Lexeme) (rest : List Lexeme) → CutAt i (first_place i) ts w → tree_at i w.0 ≡ None → left_with w.1 ≡ Err rest → Stuck (slot i f) ts rest
+in_part : (i : Slot) (f : Tree i → Pattern) (ts : List Lexeme) (w : Place i × List Lexeme) (rest : List Lexeme)
+    → CutAt i (first_place i) ts w → tree_at i w.0 ≡ None → left_with w.1 ≡ Err rest → Stuck (slot i f) ts rest
 in_part i f ts w rest c n e =
     let q = stuck_out w.1 rest e in
     let (ls, t, r) = part_example i f (λ x. example (f x)) c.front w.0 c.ran (part_ended i c.front w.0 c.ran) in
@@ -111,43 +119,55 @@ in_part i f ts w rest c n e =
       words = ls;
       tree = t;
       begun = r;
-      stays = λ k ks us h. ap (at_cut i f) (cut_over i c.front (first_place i) w.0 k us c.ran (c.refused k ks (q ∙ h))) ∙ ap (at_tree i f (k ∷ us)) n;
+      stays = λ k ks us h. ap (at_cut i f) (cut_over i c.front (first_place i) w.0 k us c.ran (c.refused k ks (q ∙ h)))
+          ∙ ap (at_tree i f (k ∷ us)) n;
     }
 
 -- the token behind the part is refused there
-behind_cut : (i : Slot) (f : Tree i → Pattern) (ts : List Lexeme) (w : Place i × List Lexeme) (x : Tree i) (front rest : List Lexeme) (k : Lexeme) (ks ls : List Lexeme) → (c : CutAt i (first_place i) ts w) →
-    tree_at i w.0 ≡ Some x → w.1 ≡ front ++ rest → rest ≡ k ∷ ks → reading (slot i f) (c.front ++ (front ++ (k ∷ ls))) ≡ reading (f x) (front ++ (k ∷ ls))
+behind_cut : (i : Slot) (f : Tree i → Pattern) (ts : List Lexeme) (w : Place i × List Lexeme) (x : Tree i) (front rest : List Lexeme)
+    (k : Lexeme) (ks ls : List Lexeme) → (c : CutAt i (first_place i) ts w) →
+    tree_at i w.0 ≡ Some x → w.1 ≡ front ++ rest → rest ≡ k ∷ ks
+    → reading (slot i f) (c.front ++ (front ++ (k ∷ ls))) ≡ reading (f x) (front ++ (k ∷ ls))
 behind_cut i f ts w x [] rest k ks ls c t e h =
     ap (at_cut i f) (cut_over i c.front (first_place i) w.0 k ls c.ran (c.refused k ks (e ∙ h))) ∙ ap (at_tree i f (k ∷ ls)) t
 behind_cut i f ts w x (j ∷ front) rest k ks ls c t e h =
     ap (at_cut i f) (cut_over i c.front (first_place i) w.0 j (front ++ (k ∷ ls)) c.ran (c.refused j (front ++ rest) e))
     ∙ ap (at_tree i f (j ∷ (front ++ (k ∷ ls)))) t
 
-behind_part : (i : Slot) (f : Tree i → Pattern) (ts : List Lexeme) (w : Place i × List Lexeme) (rest : List Lexeme) (x : Tree i) → CutAt i (first_place i) ts w → tree_at i w.0 ≡ Some x → Stuck (f x) w.1 rest → Stuck (slot i f) ts rest
+behind_part : (i : Slot) (f : Tree i → Pattern) (ts : List Lexeme) (w : Place i × List Lexeme) (rest : List Lexeme) (x : Tree i)
+    → CutAt i (first_place i) ts w → tree_at i w.0 ≡ Some x → Stuck (f x) w.1 rest → Stuck (slot i f) ts rest
 behind_part i f ts w rest x c t y = record {
   front = c.front ++ y.front;
   split = c.split ∙ ap (λ l. c.front ++ l) y.split ∙ sym (append_assoc c.front y.front rest);
   words = y.words;
   tree = y.tree;
-  begun = subst (λ l. Reads (slot i f) l y.tree) (sym (append_assoc c.front y.front y.words)) (part_reads c.front x (part_whole i c.front w.0 x c.ran t) y.begun);
-  stays = λ k ks ls h. ap (reading (slot i f)) (append_assoc c.front y.front (k ∷ ls)) ∙ behind_cut i f ts w x y.front rest k ks ls c t y.split h ∙ y.stays k ks ls h;
+  begun = subst (λ l. Reads (slot i f) l y.tree) (sym (append_assoc c.front y.front y.words))
+      (part_reads c.front x (part_whole i c.front w.0 x c.ran t) y.begun);
+  stays = λ k ks ls h. ap (reading (slot i f)) (append_assoc c.front y.front (k ∷ ls))
+      ∙ behind_cut i f ts w x y.front rest k ks ls c t y.split h ∙ y.stays k ks ls h;
 }
 
 -- ---- all patterns
 
-by_sign : (p : Pattern) (k : Lexeme) (ks rest : List Lexeme) (m b : Bool) (A : Type 0) → m ≡ b → (m ≡ true → reading p ks ≡ Err rest → A) → (m ≡ false → left_with (k ∷ ks) ≡ Err rest → A) → at_sign p k ks b ≡ Err rest → A
+by_sign : (p : Pattern) (k : Lexeme) (ks rest : List Lexeme) (m b : Bool) (A : Type 0) → m ≡ b → (m ≡ true → reading p ks ≡ Err rest → A)
+    → (m ≡ false → left_with (k ∷ ks) ≡ Err rest → A) → at_sign p k ks b ≡ Err rest → A
 by_sign p k ks rest m true A h f g e = f h e
 by_sign p k ks rest m false A h f g e = g h e
 
-by_choice : (p q : Pattern) (k : Lexeme) (ks rest : List Lexeme) (m b : Bool) (A : Type 0) → m ≡ b → (m ≡ true → reading p ks ≡ Err rest → A) → (m ≡ false → reading q (k ∷ ks) ≡ Err rest → A) → at_choice p q k ks b ≡ Err rest → A
+by_choice : (p q : Pattern) (k : Lexeme) (ks rest : List Lexeme) (m b : Bool) (A : Type 0) → m ≡ b
+    → (m ≡ true → reading p ks ≡ Err rest → A) → (m ≡ false → reading q (k ∷ ks) ≡ Err rest → A) → at_choice p q k ks b ≡ Err rest → A
 by_choice p q k ks rest m true A h f g e = f h e
 by_choice p q k ks rest m false A h f g e = g h e
 
-by_name : (f : Name → Pattern) (k : Lexeme) (ks rest : List Lexeme) (n m : Option Name) (A : Type 0) → n ≡ m → ((x : Name) → n ≡ Some x → reading (f x) ks ≡ Err rest → A) → (n ≡ None → left_with (k ∷ ks) ≡ Err rest → A) → at_name f k ks m ≡ Err rest → A
+by_name : (f : Name → Pattern) (k : Lexeme) (ks rest : List Lexeme) (n m : Option Name) (A : Type 0) → n ≡ m
+    → ((x : Name) → n ≡ Some x → reading (f x) ks ≡ Err rest → A) → (n ≡ None → left_with (k ∷ ks) ≡ Err rest → A)
+    → at_name f k ks m ≡ Err rest → A
 by_name f k ks rest n (Some x) A h a b e = a x h e
 by_name f k ks rest n None A h a b e = b h e
 
-by_tree : (i : Slot) (f : Tree i → Pattern) (left rest : List Lexeme) (n m : Option (Tree i)) (A : Type 0) → n ≡ m → ((x : Tree i) → n ≡ Some x → reading (f x) left ≡ Err rest → A) → (n ≡ None → left_with left ≡ Err rest → A) → at_tree i f left m ≡ Err rest → A
+by_tree : (i : Slot) (f : Tree i → Pattern) (left rest : List Lexeme) (n m : Option (Tree i)) (A : Type 0) → n ≡ m
+    → ((x : Tree i) → n ≡ Some x → reading (f x) left ≡ Err rest → A) → (n ≡ None → left_with left ≡ Err rest → A)
+    → at_tree i f left m ≡ Err rest → A
 by_tree i f left rest n (Some x) A h a b e = a x h e
 by_tree i f left rest n None A h a b e = b h e
 
@@ -156,17 +176,22 @@ stops (done t) [] rest e = cc
 stops (done t) (k ∷ ks) rest e = here (done t) (k ∷ ks) rest e (λ j js ls h. refl)
 stops (fixed s p) [] rest e = here (fixed s p) [] rest e (λ j js ls h. cc)
 stops (fixed s p) (k ∷ ks) rest e =
-    by_sign p k ks rest (is_sign s k.kind) (is_sign s k.kind) (Stuck (fixed s p) (k ∷ ks) rest) refl (λ h q. sign_more s p k ks rest h (stops p ks rest q))
+    by_sign p k ks rest (is_sign s k.kind) (is_sign s k.kind) (Stuck (fixed s p) (k ∷ ks) rest) refl
+    (λ h q. sign_more s p k ks rest h (stops p ks rest q))
     (λ h q. here (fixed s p) (k ∷ ks) rest q (λ j js ls g. ap (at_sign p j ls) (same_test s k j ks js h g))) e
 stops (name f) [] rest e = here (name f) [] rest e (λ j js ls h. cc)
 stops (name f) (k ∷ ks) rest e =
-    by_name f k ks rest (name_of k) (name_of k) (Stuck (name f) (k ∷ ks) rest) refl (λ x h q. name_more f k ks rest x h (stops (f x) ks rest q))
+    by_name f k ks rest (name_of k) (name_of k) (Stuck (name f) (k ∷ ks) rest) refl
+    (λ x h q. name_more f k ks rest x h (stops (f x) ks rest q))
     (λ h q. here (name f) (k ∷ ks) rest q (λ j js ls g. ap (at_name f j ls) (same_name k j ks js h g))) e
 stops (slot i f) ts rest e =
-    by_tree i f (cut i (first_place i) ts).1 rest (tree_at i (cut i (first_place i) ts).0) (tree_at i (cut i (first_place i) ts).0) (Stuck (slot i f) ts rest) refl
-    (λ x h q. behind_part i f ts (cut i (first_place i) ts) rest x (cut_is i ts (first_place i)) h (stops (f x) (cut i (first_place i) ts).1 rest q))
+    by_tree i f (cut i (first_place i) ts).1 rest (tree_at i (cut i (first_place i) ts).0) (tree_at i (cut i (first_place i) ts).0)
+    (Stuck (slot i f) ts rest) refl
+    (λ x h q. behind_part i f ts (cut i (first_place i) ts) rest x (cut_is i ts (first_place i)) h
+    (stops (f x) (cut i (first_place i) ts).1 rest q))
     (λ h q. in_part i f ts (cut i (first_place i) ts) rest (cut_is i ts (first_place i)) h q) e
 stops (option s p q) [] rest e = passes_end s p q rest (stops q [] rest e)
 stops (option s p q) (k ∷ ks) rest e =
-    by_choice p q k ks rest (is_sign s k.kind) (is_sign s k.kind) (Stuck (option s p q) (k ∷ ks) rest) refl (λ h g. takes_more s p q k ks rest h (stops p ks rest g))
+    by_choice p q k ks rest (is_sign s k.kind) (is_sign s k.kind) (Stuck (option s p q) (k ∷ ks) rest) refl
+    (λ h g. takes_more s p q k ks rest h (stops p ks rest g))
     (λ h g. passes_more s p q k ks rest h (stops q (k ∷ ks) rest g)) e

@@ -36,34 +36,42 @@ unfolding whole
 row_lemma = refl
 
 -- Definition a (a a : a) : a := a.
-row_definition : sentence_reading [] (tokens (word (codes "Definition") ∷ a ∷ kind.opening ∷ a ∷ a ∷ kind.colon ∷ a ∷ kind.closing ∷ kind.colon ∷ a ∷ kind.other token.Define ∷ a ∷ dot ∷ []))
+row_definition : sentence_reading [] (tokens (word
+    (codes "Definition") ∷ a ∷ kind.opening ∷ a ∷ a ∷ kind.colon ∷ a ∷ kind.closing ∷ kind.colon ∷ a ∷ kind.other token.Define ∷ a ∷ dot ∷
+    []))
     ≡ Ok (made.define name (group (name ∷ name ∷ []) name ∷ []) (Some name) lone)
 unfolding whole
 row_definition = refl
 
 -- assert (a : (a)).
-row_assert : sentence_reading [] (tokens (word (codes "assert") ∷ kind.opening ∷ a ∷ kind.colon ∷ kind.opening ∷ a ∷ kind.closing ∷ kind.closing ∷ dot ∷ [])) ≡ Ok (made.refinement (made.assert name lone))
+row_assert : sentence_reading [] (tokens (word (codes "assert") ∷ kind.opening ∷ a ∷ kind.colon ∷ kind.opening ∷ a ∷ kind.closing ∷
+    kind.closing ∷ dot ∷ [])) ≡ Ok (made.refinement (made.assert name lone))
 unfolding whole close
 row_assert = refl
 
 -- assert (a : a) -> a.
-row_assert_more : sentence_reading [] (tokens (word (codes "assert") ∷ kind.opening ∷ a ∷ kind.colon ∷ a ∷ kind.closing ∷ kind.sign implication ∷ a ∷ dot ∷ [])) ≡ Err (tokens (kind.sign implication ∷ a ∷ dot ∷ []))
+row_assert_more : sentence_reading [] (tokens (word
+    (codes "assert") ∷ kind.opening ∷ a ∷ kind.colon ∷ a ∷ kind.closing ∷ kind.sign implication ∷ a ∷ dot ∷ []))
+    ≡ Err (tokens (kind.sign implication ∷ a ∷ dot ∷ []))
 unfolding whole close
 row_assert_more = refl
 
 -- destruct a as [a | a].
-row_destruct : sentence_reading [] (tokens (word (codes "destruct") ∷ a ∷ kind.other token.As ∷ kind.other token.LeftBracket ∷ a ∷ kind.other token.Bar ∷ a ∷ kind.other token.RightBracket ∷ dot ∷ []))
+row_destruct : sentence_reading [] (tokens (word (codes "destruct") ∷ a ∷ kind.other token.As ∷ kind.other token.LeftBracket ∷ a ∷
+    kind.other token.Bar ∷ a ∷ kind.other token.RightBracket ∷ dot ∷ []))
     ≡ Ok (made.refinement (made.destruct_either lone name name))
 unfolding whole
 row_destruct = refl
 
 -- rewrite <- a.
-row_rewrite : sentence_reading [] (tokens (word (codes "rewrite") ∷ kind.other token.BackArrow ∷ a ∷ dot ∷ [])) ≡ Ok (made.refinement (made.rewrite lone true))
+row_rewrite : sentence_reading [] (tokens (word (codes "rewrite") ∷ kind.other token.BackArrow ∷ a ∷ dot ∷ []))
+    ≡ Ok (made.refinement (made.rewrite lone true))
 unfolding whole
 row_rewrite = refl
 
 -- exact a -> a.
-row_exact : sentence_reading [] (tokens (word (codes "exact") ∷ a ∷ kind.sign implication ∷ a ∷ dot ∷ [])) ≡ Err (tokens (kind.sign implication ∷ a ∷ dot ∷ []))
+row_exact : sentence_reading [] (tokens (word (codes "exact") ∷ a ∷ kind.sign implication ∷ a ∷ dot ∷ []))
+    ≡ Err (tokens (kind.sign implication ∷ a ∷ dot ∷ []))
 unfolding whole
 row_exact = refl
 
@@ -87,29 +95,36 @@ times zero k ks = ks
 times (suc n) k ks = k ∷ times n k ks
 
 -- exact ((..(a)..)). with 256 parentheses
-row_evidence_deep : sentence_reading [] (tokens (word (codes "exact") ∷ times 256 kind.opening (a ∷ times 256 kind.closing (dot ∷ [])))) ≡ Ok (made.refinement (made.exact lone))
+row_evidence_deep : sentence_reading [] (tokens (word (codes "exact") ∷ times 256 kind.opening (a ∷ times 256 kind.closing (dot ∷ []))))
+    ≡ Ok (made.refinement (made.exact lone))
 unfolding whole close
 row_evidence_deep = refl
 
 -- and with 257: the fault is at the last of them
-row_evidence_deeper : sentence_reading [] (tokens (word (codes "exact") ∷ times 257 kind.opening (a ∷ []))) ≡ Err (tokens (kind.opening ∷ a ∷ []))
+row_evidence_deeper : sentence_reading [] (tokens (word (codes "exact") ∷ times 257 kind.opening (a ∷ [])))
+    ≡ Err (tokens (kind.opening ∷ a ∷ []))
 row_evidence_deeper = refl
 
 -- assert (a : ((..(a)..))). with 255 parentheses in that one
-row_assert_deep : sentence_reading [] (tokens (word (codes "assert") ∷ kind.opening ∷ a ∷ kind.colon ∷ times 255 kind.opening (a ∷ times 256 kind.closing (dot ∷ [])))) ≡ Ok (made.refinement (made.assert name lone))
+row_assert_deep : sentence_reading [] (tokens (word (codes "assert") ∷ kind.opening ∷ a ∷ kind.colon ∷ times 255 kind.opening
+    (a ∷ times 256 kind.closing (dot ∷ [])))) ≡ Ok (made.refinement (made.assert name lone))
 unfolding whole close
 row_assert_deep = refl
 
 -- and with 256
-row_assert_deeper : sentence_reading [] (tokens (word (codes "assert") ∷ kind.opening ∷ a ∷ kind.colon ∷ times 256 kind.opening (a ∷ []))) ≡ Err (tokens (kind.opening ∷ a ∷ []))
+row_assert_deeper : sentence_reading [] (tokens (word (codes "assert") ∷ kind.opening ∷ a ∷ kind.colon ∷ times 256 kind.opening (a ∷ [])))
+    ≡ Err (tokens (kind.opening ∷ a ∷ []))
 row_assert_deeper = refl
 
 -- assert (a : forall, behind 255 openings, where no name can follow
-row_assert_quantifier : sentence_reading [] (tokens (word (codes "assert") ∷ kind.opening ∷ a ∷ kind.colon ∷ times 255 kind.tilde (kind.quantifier true ∷ a ∷ []))) ≡ Err (tokens (kind.quantifier true ∷ a ∷ []))
+row_assert_quantifier : sentence_reading [] (tokens
+    (word (codes "assert") ∷ kind.opening ∷ a ∷ kind.colon ∷ times 255 kind.tilde (kind.quantifier true ∷ a ∷ [])))
+    ≡ Err (tokens (kind.quantifier true ∷ a ∷ []))
 row_assert_quantifier = refl
 
 -- Lemma a : (..(a)..). with 256
-row_lemma_deep : sentence_reading [] (tokens (word (codes "Lemma") ∷ a ∷ kind.colon ∷ times 256 kind.opening (a ∷ times 256 kind.closing (dot ∷ [])))) ≡ Ok (made.begin name lone)
+row_lemma_deep : sentence_reading [] (tokens (word (codes "Lemma") ∷ a ∷ kind.colon ∷ times 256 kind.opening
+    (a ∷ times 256 kind.closing (dot ∷ [])))) ≡ Ok (made.begin name lone)
 unfolding whole close
 row_lemma_deep = refl
 
@@ -123,16 +138,19 @@ row_no_word : sentence_reading [] (tokens (a ∷ dot ∷ [])) ≡ Err (tokens (a
 row_no_word = refl
 
 -- Definition a () : a := a.
-row_empty_group : sentence_reading [] (tokens (word (codes "Definition") ∷ a ∷ kind.opening ∷ kind.colon ∷ [])) ≡ Err (tokens (kind.colon ∷ []))
+row_empty_group : sentence_reading [] (tokens (word (codes "Definition") ∷ a ∷ kind.opening ∷ kind.colon ∷ []))
+    ≡ Err (tokens (kind.colon ∷ []))
 row_empty_group = refl
 
 -- destruct a as [a].
-row_one_name : sentence_reading [] (tokens (word (codes "destruct") ∷ a ∷ kind.other token.As ∷ kind.other token.LeftBracket ∷ a ∷ kind.other token.RightBracket ∷ [])) ≡ Err (tokens (kind.other token.RightBracket ∷ []))
+row_one_name : sentence_reading [] (tokens (word (codes "destruct") ∷ a ∷ kind.other token.As ∷ kind.other token.LeftBracket ∷ a ∷
+    kind.other token.RightBracket ∷ [])) ≡ Err (tokens (kind.other token.RightBracket ∷ []))
 unfolding whole
 row_one_name = refl
 
 -- rewrite -> -> a.
-row_two_arrows : sentence_reading [] (tokens (word (codes "rewrite") ∷ kind.sign implication ∷ kind.sign implication ∷ a ∷ [])) ≡ Err (tokens (kind.sign implication ∷ a ∷ []))
+row_two_arrows : sentence_reading [] (tokens (word (codes "rewrite") ∷ kind.sign implication ∷ kind.sign implication ∷ a ∷ []))
+    ≡ Err (tokens (kind.sign implication ∷ a ∷ []))
 row_two_arrows = refl
 
 -- intros a a, and no full stop
@@ -144,10 +162,12 @@ row_intros_none : sentence_reading [] (tokens (word (codes "intros") ∷ dot ∷
 row_intros_none = refl
 
 -- Parameter intro : Prop.
-row_word_as_name : sentence_reading [] (tokens (word (codes "Parameter") ∷ word (codes "intro") ∷ kind.colon ∷ kind.prop ∷ dot ∷ [])) ≡ Ok (made.declare (named (codes "intro") (span 0 0)) (tree.prop (span 0 0)))
+row_word_as_name : sentence_reading [] (tokens (word (codes "Parameter") ∷ word (codes "intro") ∷ kind.colon ∷ kind.prop ∷ dot ∷ []))
+    ≡ Ok (made.declare (named (codes "intro") (span 0 0)) (tree.prop (span 0 0)))
 unfolding chain
 row_word_as_name = refl
 
 -- unfold a in a.
-row_unfold : sentence_reading [] (tokens (word (codes "unfold") ∷ a ∷ kind.other token.In ∷ a ∷ dot ∷ [])) ≡ Ok (made.refinement (made.unfold_in name (Some name)))
+row_unfold : sentence_reading [] (tokens (word (codes "unfold") ∷ a ∷ kind.other token.In ∷ a ∷ dot ∷ []))
+    ≡ Ok (made.refinement (made.unfold_in name (Some name)))
 row_unfold = refl

@@ -7,7 +7,8 @@ use Rattle.vern_grammar.specs.Kinds as kind
 use Rattle.vern_grammar.specs.Levels.{limit}
 use Rattle.vern_grammar.specs.Grammar.{tok, named, application, single}
 
--- IsEvidenceBehind o tokens tree: the tokens are evidence with this tree, where o openings are open before it. Parentheses round the whole of it
+-- IsEvidenceBehind o tokens tree: the tokens are evidence with this tree, where o openings are open before it. Parentheses round the whole
+-- of it
 -- leave no trace in the tree.
 mutual
   pub data IsEvidenceBehind : ℕ → List Lexeme → Expression → Type 0 where
@@ -27,5 +28,6 @@ mutual
         IsEvidenceApplication o ts x ys to → o < limit → IsEvidenceBehind (o + 1) us t →
         IsEvidenceApplication o (ts ++ ((tok kind.opening c ∷ us) ++ (tok kind.closing d ∷ []))) x (ys ++ (t ∷ [])) d.to
 
+-- The tokens are evidence with this tree.
 abbrev pub IsEvidence : List Lexeme → Expression → Type 0
 IsEvidence ts t = IsEvidenceBehind 0 ts t

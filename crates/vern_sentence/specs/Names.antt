@@ -5,14 +5,17 @@ use Rattle.vern_lex.specs.declared.token.Token.{Token}
 use Rattle.vern_lex.specs.declared.token.TokenKind.TheVariants as token
 use Rattle.vern_grammar.specs.Kinds.{slice}
 use Rattle.vern_lex.specs.Tokens.{first_name, word_kind}
-use Rattle.vern_grammar.specs.Trees.{Name, Group, Expression, constant, application, binary, negation, quantified, Expressions, nil, cons, Shape, set, prop, arrow, plain}
+use Rattle.vern_grammar.specs.Trees.{Name, Group, Expression, constant, application, binary, negation, quantified, Expressions, nil, cons}
+use Rattle.vern_grammar.specs.Trees.{Shape, set, prop, arrow, plain}
 use Rattle.vern_sentence.specs.Trees.{Refinement, Sentence}
 use Rattle.vern_sentence.specs.Trees as made
 
+-- the names in groups, their sorts among them
 abbrev pub names_of_groups : List Group → List Name
 names_of_groups [] = []
 names_of_groups (g ∷ gs) = g.names ++ (g.sort ∷ names_of_groups gs)
 
+-- the names in an expression, and in arguments
 abbrev mutual
   pub names_of_expression : Expression → List Name
   names_of_expression (constant b c) = []
@@ -25,16 +28,19 @@ abbrev mutual
   names_of_expressions nil = []
   names_of_expressions (cons t ts) = names_of_expression t ++ names_of_expressions ts
 
+-- the names in a shape
 abbrev pub names_of_shape : Shape → List Name
 names_of_shape (set c) = []
 names_of_shape (prop c) = []
 names_of_shape (arrow t s) = names_of_expression t ++ names_of_shape s
 names_of_shape (plain t) = names_of_expression t
 
+-- the name that there may be
 abbrev pub names_of_option : Option Name → List Name
 names_of_option None = []
 names_of_option (Some x) = x ∷ []
 
+-- the names in a refinement
 abbrev pub names_of_refinement : Refinement → List Name
 names_of_refinement (made.intro x) = names_of_option x
 names_of_refinement (made.intros xs) = xs
@@ -50,6 +56,7 @@ names_of_refinement (made.rewrite t back) = names_of_expression t
 names_of_refinement (made.unfold_in x y) = x ∷ names_of_option y
 names_of_refinement _ = []
 
+-- the names in a sentence
 abbrev pub names_of_sentence : Sentence → List Name
 names_of_sentence (made.declare x s) = x ∷ names_of_shape s
 names_of_sentence (made.define x gs sort t) = x ∷ (names_of_groups gs ++ (names_of_option sort ++ names_of_expression t))

@@ -1,5 +1,6 @@
 -- What may follow in a sentence, step by step, and what reading it gives.
 use Rattle.std.specs.Prelude.{Bool, false, List, [], ◌∷◌, drop, Option, Some, None, Result, Ok, Err, if◌then◌else◌}
+use Rattle.base_core.specs.Answers.{and_then}
 use Rattle.vern_grammar.specs.Trees.{Name}
 use Rattle.vern_grammar.specs.Kinds.{Lexeme}
 use Rattle.vern_sentence.specs.Trees.{Sentence}
@@ -8,15 +9,12 @@ use Rattle.vern_sentence.specs.Slots.{Slot, Tree, name_of, first_place, tree_at,
 
 -- ---- the front of some tokens: what it is, with the tokens behind it, or the tokens from the one on that can't stand there
 
-abbrev pub and_then : {X Y : Type 0} → Result X (List Lexeme) → (X → Result Y (List Lexeme)) → Result Y (List Lexeme)
-and_then (Ok x) f = f x
-and_then (Err rest) f = Err rest
-
 -- a sign
 abbrev pub sign_front : Sign → List Lexeme → Result (List Lexeme) (List Lexeme)
 sign_front s [] = Err []
 sign_front s (k ∷ ks) = if is_sign s k.kind then Ok ks else Err (k ∷ ks)
 
+-- the name that the first token is, if it is one
 abbrev pub name_at : Lexeme → List Lexeme → Option Name → Result (Name × List Lexeme) (List Lexeme)
 name_at k ks None = Err (k ∷ ks)
 name_at k ks (Some x) = Ok (x, ks)
@@ -26,6 +24,7 @@ abbrev pub name_front : List Lexeme → Result (Name × List Lexeme) (List Lexem
 name_front [] = Err []
 name_front (k ∷ ks) = name_at k ks (name_of k)
 
+-- the tree of a part, if there is one, and the tokens behind it
 abbrev pub part_at : (i : Slot) → List Lexeme → Option (Tree i) → Result (Tree i × List Lexeme) (List Lexeme)
 part_at i rest None = Err rest
 part_at i rest (Some t) = Ok (t, rest)

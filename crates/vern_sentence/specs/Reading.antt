@@ -6,7 +6,8 @@ use Rattle.vern_grammar.specs.Kinds.{Lexeme}
 use Rattle.vern_sentence.specs.Trees.{Sentence, Refinement}
 use Rattle.vern_sentence.specs.Trees as made
 use Rattle.vern_sentence.specs.Sentences.{bullet_at}
-use Rattle.vern_sentence.specs.Words.{Word, word_of, full_stop, define, as_word, in_word, left_bracket, right_bracket, bar, back_arrow, arrow, colon, opening, prop_word}
+use Rattle.vern_sentence.specs.Words.{Word, word_of, full_stop, define, as_word, in_word, left_bracket, right_bracket, bar, back_arrow}
+use Rattle.vern_sentence.specs.Words.{arrow, colon, opening, prop_word}
 use Rattle.vern_sentence.specs.Words as word
 use Rattle.vern_sentence.specs.Slots.{expression, enclosed, shape, evidence, names, groups}
 use Rattle.vern_sentence.specs.Patterns.{Pattern, done, fixed, name, slot, option, reading}
@@ -47,7 +48,8 @@ arguing f = slot evidence (λ t. refines (f t))
 abbrev pub following : List ℕ → Span → Word → Pattern
 following text c word.parameter = declaring
 following text c word.axiom_word = declaring
-following text c word.definition = name (λ x. slot groups (λ gs. fixed colon (option prop_word (defining x gs None) (name (λ sort. defining x gs (Some sort))))))
+following text c word.definition = name (λ x. slot groups
+    (λ gs. fixed colon (option prop_word (defining x gs None) (name (λ sort. defining x gs (Some sort))))))
 following text c word.lemma = stating
 following text c word.theorem = stating
 following text c word.proof = ends_as made.proof_word
@@ -70,12 +72,15 @@ following text c word.assert = fixed opening (name (λ x. fixed colon (slot encl
 following text c word.clear = name (λ x. refines (made.clear x))
 following text c word.reflexivity = refines made.reflexivity
 following text c word.symmetry = refines made.symmetry
-following text c word.rewrite = option arrow (arguing (λ t. made.rewrite t false)) (option back_arrow (arguing (λ t. made.rewrite t true)) (arguing (λ t. made.rewrite t false)))
-following text c word.unfold_word = name (λ x. option in_word (name (λ y. refines (made.unfold_in x (Some y)))) (refines (made.unfold_in x None)))
+following text c word.rewrite = option arrow (arguing (λ t. made.rewrite t false))
+    (option back_arrow (arguing (λ t. made.rewrite t true)) (arguing (λ t. made.rewrite t false)))
+following text c word.unfold_word = name (λ x. option in_word (name (λ y. refines (made.unfold_in x (Some y))))
+    (refines (made.unfold_in x None)))
 following text c word.bullet = done (bullet_at text c)
 following text c word.brace_in = done made.brace_in
 following text c word.brace_out = done made.brace_out
 
+-- the tree of a sentence of a word, which its first token is, if it is one
 abbrev pub behind_word : List ℕ → Lexeme → List Lexeme → Option Word → Result Sentence (List Lexeme)
 behind_word text k ks None = Err (k ∷ ks)
 behind_word text k ks (Some w) = reading (following text k.span w) ks

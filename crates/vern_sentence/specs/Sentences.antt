@@ -44,7 +44,8 @@ pub data AreGroups : List Lexeme → List Group → Type 0 where
   none : AreGroups [] []
   more : {ts : List Lexeme} {gs : List Group} (x : Name) (xs : List Name) (sort : Name) (a b c : Span) →
       AreGroups ts gs →
-      AreGroups (ts ++ (tok kind.opening a ∷ (map spelled (x ∷ xs) ++ (tok kind.colon b ∷ spelled sort ∷ tok kind.closing c ∷ [])))) (gs ++ (group (x ∷ xs) sort ∷ []))
+      AreGroups (ts ++ (tok kind.opening a ∷ (map spelled (x ∷ xs) ++ (tok kind.colon b ∷ spelled sort ∷ tok kind.closing c ∷ []))))
+      (gs ++ (group (x ∷ xs) sort ∷ []))
 
 -- ---- sentences
 
@@ -56,10 +57,13 @@ pub data IsSentence (text : List ℕ) : List Lexeme → Sentence → Type 0 wher
   axiom_sentence : {ts : List Lexeme} {s : Shape} (x : Name) (a b c : Span) → IsShape ts s →
       IsSentence text (word (codes "Axiom") a ∷ spelled x ∷ tok kind.colon b ∷ (ts ++ (stop c ∷ []))) (made.declare x s)
   -- "Definition" name group* ":" (name | "Prop") ":=" expr "."
-  function : {us ts : List Lexeme} {gs : List Group} {t : Expression} (x sort : Name) (a b c d : Span) → AreGroups us gs → IsExpression ts t →
-      IsSentence text (word (codes "Definition") a ∷ spelled x ∷ (us ++ (tok kind.colon b ∷ spelled sort ∷ sign token.Define c ∷ (ts ++ (stop d ∷ []))))) (made.define x gs (Some sort) t)
+  function : {us ts : List Lexeme} {gs : List Group} {t : Expression} (x sort : Name) (a b c d : Span) → AreGroups us gs
+      → IsExpression ts t →
+      IsSentence text (word (codes "Definition") a ∷ spelled x ∷
+      (us ++ (tok kind.colon b ∷ spelled sort ∷ sign token.Define c ∷ (ts ++ (stop d ∷ []))))) (made.define x gs (Some sort) t)
   predicate : {us ts : List Lexeme} {gs : List Group} {t : Expression} (x : Name) (a b c d e : Span) → AreGroups us gs → IsExpression ts t →
-      IsSentence text (word (codes "Definition") a ∷ spelled x ∷ (us ++ (tok kind.colon b ∷ tok kind.prop c ∷ sign token.Define d ∷ (ts ++ (stop e ∷ []))))) (made.define x gs None t)
+      IsSentence text (word (codes "Definition") a ∷ spelled x ∷
+      (us ++ (tok kind.colon b ∷ tok kind.prop c ∷ sign token.Define d ∷ (ts ++ (stop e ∷ []))))) (made.define x gs None t)
   -- ("Lemma" | "Theorem") name ":" expr "."
   lemma : {ts : List Lexeme} {t : Expression} (x : Name) (a b c : Span) → IsExpression ts t →
       IsSentence text (word (codes "Lemma") a ∷ spelled x ∷ tok kind.colon b ∷ (ts ++ (stop c ∷ []))) (made.begin x t)
@@ -73,8 +77,10 @@ pub data IsSentence (text : List ℕ) : List Lexeme → Sentence → Type 0 wher
   abort : (a b : Span) → IsSentence text (word (codes "Abort") a ∷ stop b ∷ []) (made.close made.abort)
   -- "intro" "." | "intro" name "." | "intros" name* "."
   intro : (a b : Span) → IsSentence text (word (codes "intro") a ∷ stop b ∷ []) (made.refinement (made.intro None))
-  intro_name : (x : Name) (a b : Span) → IsSentence text (word (codes "intro") a ∷ spelled x ∷ stop b ∷ []) (made.refinement (made.intro (Some x)))
-  intros : (xs : List Name) (a b : Span) → IsSentence text (word (codes "intros") a ∷ (map spelled xs ++ (stop b ∷ []))) (made.refinement (made.intros xs))
+  intro_name : (x : Name) (a b : Span) → IsSentence text (word (codes "intro") a ∷ spelled x ∷ stop b ∷ [])
+      (made.refinement (made.intro (Some x)))
+  intros : (xs : List Name) (a b : Span) → IsSentence text (word (codes "intros") a ∷ (map spelled xs ++ (stop b ∷ [])))
+      (made.refinement (made.intros xs))
   -- "exact" ev "." | "assumption" "." | "apply" ev "."
   exact : {ts : List Lexeme} {t : Expression} (a b : Span) → IsEvidence ts t →
       IsSentence text (word (codes "exact") a ∷ (ts ++ (stop b ∷ []))) (made.refinement (made.exact t))
@@ -89,17 +95,21 @@ pub data IsSentence (text : List ℕ) : List Lexeme → Sentence → Type 0 wher
       IsSentence text (tok (kind.quantifier false) a ∷ (ts ++ (stop b ∷ []))) (made.refinement (made.exists t))
   -- "destruct" ev "as" "[" name name "]" "." | "destruct" ev "as" "[" name "|" name "]" "." | "destruct" ev "."
   destruct_both : {ts : List Lexeme} {t : Expression} (x y : Name) (a b c d e : Span) → IsEvidence ts t →
-      IsSentence text (word (codes "destruct") a ∷ (ts ++ (sign token.As b ∷ sign token.LeftBracket c ∷ spelled x ∷ spelled y ∷ sign token.RightBracket d ∷ stop e ∷ [])))
+      IsSentence text (word (codes "destruct") a ∷
+      (ts ++ (sign token.As b ∷ sign token.LeftBracket c ∷ spelled x ∷ spelled y ∷ sign token.RightBracket d ∷ stop e ∷ [])))
       (made.refinement (made.destruct_both t x y))
   destruct_either : {ts : List Lexeme} {t : Expression} (x y : Name) (a b c d e f : Span) → IsEvidence ts t →
-      IsSentence text (word (codes "destruct") a ∷ (ts ++ (sign token.As b ∷ sign token.LeftBracket c ∷ spelled x ∷ sign token.Bar d ∷ spelled y ∷ sign token.RightBracket e ∷ stop f ∷ [])))
+      IsSentence text (word (codes "destruct") a ∷
+      (ts ++ (sign token.As b ∷ sign token.LeftBracket c ∷ spelled x ∷ sign token.Bar d ∷ spelled y ∷ sign token.RightBracket e ∷ stop f ∷
+      [])))
       (made.refinement (made.destruct_either t x y))
   destruct_none : {ts : List Lexeme} {t : Expression} (a b : Span) → IsEvidence ts t →
       IsSentence text (word (codes "destruct") a ∷ (ts ++ (stop b ∷ []))) (made.refinement (made.destruct_none t))
   -- "exfalso" "." | "assert" "(" name ":" expr ")" "." | "clear" name "."
   exfalso : (a b : Span) → IsSentence text (word (codes "exfalso") a ∷ stop b ∷ []) (made.refinement made.exfalso)
   assert : {ts : List Lexeme} {t : Expression} (x : Name) (a b c d e : Span) → IsInner ts t →
-      IsSentence text (word (codes "assert") a ∷ tok kind.opening b ∷ spelled x ∷ tok kind.colon c ∷ (ts ++ (tok kind.closing d ∷ stop e ∷ []))) (made.refinement (made.assert x t))
+      IsSentence text (word (codes "assert") a ∷ tok kind.opening b ∷ spelled x ∷ tok kind.colon c ∷
+      (ts ++ (tok kind.closing d ∷ stop e ∷ []))) (made.refinement (made.assert x t))
   clear : (x : Name) (a b : Span) → IsSentence text (word (codes "clear") a ∷ spelled x ∷ stop b ∷ []) (made.refinement (made.clear x))
   -- "reflexivity" "." | "symmetry" "."
   reflexivity : (a b : Span) → IsSentence text (word (codes "reflexivity") a ∷ stop b ∷ []) (made.refinement made.reflexivity)
@@ -108,13 +118,16 @@ pub data IsSentence (text : List ℕ) : List Lexeme → Sentence → Type 0 wher
   rewrite_plain : {ts : List Lexeme} {t : Expression} (a b : Span) → IsEvidence ts t →
       IsSentence text (word (codes "rewrite") a ∷ (ts ++ (stop b ∷ []))) (made.refinement (made.rewrite t false))
   rewrite_forward : {ts : List Lexeme} {t : Expression} (a b c : Span) → IsEvidence ts t →
-      IsSentence text (word (codes "rewrite") a ∷ tok (kind.sign implication) b ∷ (ts ++ (stop c ∷ []))) (made.refinement (made.rewrite t false))
+      IsSentence text (word (codes "rewrite") a ∷ tok (kind.sign implication) b ∷ (ts ++ (stop c ∷ [])))
+      (made.refinement (made.rewrite t false))
   rewrite_backward : {ts : List Lexeme} {t : Expression} (a b c : Span) → IsEvidence ts t →
       IsSentence text (word (codes "rewrite") a ∷ sign token.BackArrow b ∷ (ts ++ (stop c ∷ []))) (made.refinement (made.rewrite t true))
   -- "unfold" name "." | "unfold" name "in" name "."
-  unfold_goal : (x : Name) (a b : Span) → IsSentence text (word (codes "unfold") a ∷ spelled x ∷ stop b ∷ []) (made.refinement (made.unfold_in x None))
+  unfold_goal : (x : Name) (a b : Span) → IsSentence text (word (codes "unfold") a ∷ spelled x ∷ stop b ∷ [])
+      (made.refinement (made.unfold_in x None))
   unfold_hypothesis : (x y : Name) (a b c : Span) →
-      IsSentence text (word (codes "unfold") a ∷ spelled x ∷ sign token.In b ∷ spelled y ∷ stop c ∷ []) (made.refinement (made.unfold_in x (Some y)))
+      IsSentence text (word (codes "unfold") a ∷ spelled x ∷ sign token.In b ∷ spelled y ∷ stop c ∷ [])
+      (made.refinement (made.unfold_in x (Some y)))
   -- bullet | "{" | "}"
   bullet : (a : Span) → IsSentence text (sign token.Bullet a ∷ []) (bullet_at text a)
   brace_in : (a : Span) → IsSentence text (sign token.LeftBrace a ∷ []) made.brace_in

@@ -4,7 +4,8 @@ use Rattle.vern_grammar.specs.Trees.{Name, Group, Expression, Shape}
 use Rattle.vern_grammar.specs.Kinds.{Kind, Lexeme}
 use Rattle.vern_grammar.specs.Kinds as kind
 use Rattle.vern_grammar.specs.Grammar.{named, group, IsExpression, IsShape}
-use Rattle.vern_grammar.specs.Machine.{State, at, after, want, Frame, parenthesis, outline, Mode, Phrase, an_expression, a_shape, step, ends}
+use Rattle.vern_grammar.specs.Machine.{State, at, after, want, Frame, parenthesis, outline, Mode, Phrase, an_expression, a_shape, step}
+use Rattle.vern_grammar.specs.Machine.{ends}
 use Rattle.vern_sentence.specs.Evidence.{IsEvidence}
 use Rattle.vern_sentence.specs.Sentences.{spelled, IsInner, AreGroups}
 
@@ -12,6 +13,7 @@ use Rattle.vern_sentence.specs.Sentences.{spelled, IsInner, AreGroups}
 pub data Slot : Type 0 where
   expression enclosed shape evidence names groups : Slot
 
+-- what each part is read as
 abbrev pub Tree : Slot → Type 0
 Tree expression = Expression
 Tree enclosed = Expression
@@ -38,6 +40,7 @@ pub data GroupPlace : Type 0 where
   before_sort : List Group → List Name → GroupPlace
   behind_sort : List Group → List Name → Name → GroupPlace
 
+-- the next place in groups, or none where the token isn't of them
 abbrev pub on_group : GroupPlace → Lexeme → Kind → Option GroupPlace
 on_group (between gs) t kind.opening = Some (inside gs [])
 on_group (between gs) t _ = None
@@ -49,6 +52,7 @@ on_group (before_sort gs xs) t _ = None
 on_group (behind_sort gs xs s) t kind.closing = Some (between (gs ++ (group xs s ∷ [])))
 on_group (behind_sort gs xs s) t _ = None
 
+-- the groups, where none is begun
 abbrev pub whole_groups : GroupPlace → Option (List Group)
 whole_groups (between gs) = Some gs
 whole_groups _ = None
@@ -60,9 +64,11 @@ abbrev pub name_in : Kind → Lexeme → Option Name
 name_in (kind.name x) t = Some (named x t.span)
 name_in _ t = None
 
+-- the name that a token is
 abbrev pub name_of : Lexeme → Option Name
 name_of t = name_in t.kind t
 
+-- names with one more, if it is there
 abbrev pub one_more : List Name → Option Name → Option (List Name)
 one_more xs None = None
 one_more xs (Some x) = Some (xs ++ (x ∷ []))
@@ -76,10 +82,12 @@ is_simple _ = false
 
 -- ---- expressions and shapes
 
+-- the expression that was read
 abbrev pub expression_in : Option Phrase → Option Expression
 expression_in (Some (an_expression t)) = Some t
 expression_in _ = None
 
+-- the shape that was read
 abbrev pub shape_in : Option Phrase → Option Shape
 shape_in (Some (a_shape t)) = Some t
 shape_in _ = None
@@ -96,6 +104,7 @@ operand_in _ _ = None
 
 -- ---- a part's machine
 
+-- what each machine keeps
 abbrev pub Place : Slot → Type 0
 Place expression = State
 Place enclosed = State
@@ -104,6 +113,7 @@ Place evidence = State
 Place names = List Name
 Place groups = GroupPlace
 
+-- where each machine begins
 abbrev pub first_place : (i : Slot) → Place i
 first_place expression = at want []
 first_place enclosed = at want (parenthesis 0 ∷ [])

@@ -6,7 +6,8 @@ use Rattle.vern_grammar.specs.Trees.{Name, Group, Expression, Shape}
 pub data Closer : Type 0 where
   qed defined admitted abort : Closer
 
--- A refinement sentence. `intros.` has no names; `destruct_both` is the form `[a b]`, `destruct_either` the form `[a | b]`, and `destruct_none` the
+-- A refinement sentence. `intros.` has no names; `destruct_both` is the form `[a b]`, `destruct_either` the form `[a | b]`, and
+-- `destruct_none` the
 -- form without `as`; the flag of `rewrite` is true for `<-`; `by_hypothesis` is the sentence `assumption.`.
 pub data Refinement : Type 0 where
   intro : Option Name → Refinement

@@ -15,14 +15,18 @@ pub data Word : Type 0 where
   intro intros exact by_hypothesis apply split left right destruct exfalso assert clear reflexivity symmetry rewrite unfold_word : Word
   exists bullet brace_in brace_out : Word
 
--- the words that are names, in the order in which they are looked up: those that stand outside of proofs or begin and close them, and refinements
+-- the words that are names, in the order in which they are looked up: those that stand outside of proofs or begin and close them, and
+-- refinements
 abbrev pub outer_words : List Word
 outer_words = parameter ∷ axiom_word ∷ definition ∷ lemma ∷ theorem ∷ proof ∷ qed ∷ defined ∷ admitted ∷ abort ∷ []
 
+-- the words of refinements, but `exists`
 abbrev pub refinement_words : List Word
 refinement_words =
-    intro ∷ intros ∷ exact ∷ by_hypothesis ∷ apply ∷ split ∷ left ∷ right ∷ destruct ∷ exfalso ∷ assert ∷ clear ∷ reflexivity ∷ symmetry ∷ rewrite ∷ unfold_word ∷ []
+    intro ∷ intros ∷ exact ∷ by_hypothesis ∷ apply ∷ split ∷ left ∷ right ∷ destruct ∷ exfalso ∷ assert ∷ clear ∷ reflexivity ∷ symmetry ∷
+    rewrite ∷ unfold_word ∷ []
 
+-- all words that are told by their text
 abbrev pub named_words : List Word
 named_words = outer_words ++ refinement_words
 
@@ -80,6 +84,7 @@ word_of _ = None
 
 -- ---- signs
 
+-- The signs and reserved words of sentences that stand outside of expressions.
 pub data Sign : Type 0 where
   full_stop define as_word in_word left_bracket right_bracket bar back_arrow arrow colon opening prop_word : Sign
 

@@ -7,7 +7,9 @@ ghost use Rattle.vern_sentence.specs.Sentences.{IsSentence};
 
 /// A list of tokens is a sentence, or has a fault; not both, and no two faults.
 pub fn each_sentence_has_a_tree_or_a_fault()
-    ensures either { (text : List ℕ) (ts : List Lexeme) → ((t : Sentence) × IsSentence text ts t) ⊎ ((p : ℕ) × IsFault (IsSentence text) ts p) }
-    ensures not_both { (text : List ℕ) (ts : List Lexeme) (p : ℕ) (t : Sentence) → IsFault (IsSentence text) ts p → IsSentence text ts t → ⊥ }
+    ensures either { (text : List ℕ) (ts : List Lexeme)
+        → ((t : Sentence) × IsSentence text ts t) ⊎ ((p : ℕ) × IsFault (IsSentence text) ts p) }
+    ensures not_both { (text : List ℕ) (ts : List Lexeme) (p : ℕ) (t : Sentence) → IsFault (IsSentence text) ts p → IsSentence text ts t
+        → ⊥ }
     ensures one { (text : List ℕ) (ts : List Lexeme) (p q : ℕ) → IsFault (IsSentence text) ts p → IsFault (IsSentence text) ts q → p ≡ q }
 {}

@@ -11,6 +11,8 @@ ghost use Rattle.vern_sentence.specs.Reading.{sentence_reading};
 pub fn the_function_reads_the_grammar()
     ensures accepted { (text : List ℕ) (ts : List Lexeme) (t : Sentence) → IsSentence text ts t → sentence_reading text ts ≡ Ok t }
     ensures given { (text : List ℕ) (ts : List Lexeme) (t : Sentence) → sentence_reading text ts ≡ Ok t → IsSentence text ts t }
-    ensures faulty { (text : List ℕ) (ts rest : List Lexeme) → sentence_reading text ts ≡ Err rest → (p : ℕ) × IsFault (IsSentence text) ts p × (rest ≡ drop p ts) }
-    ensures found { (text : List ℕ) (ts : List Lexeme) (p : ℕ) → IsFault (IsSentence text) ts p → sentence_reading text ts ≡ Err (drop p ts) }
+    ensures faulty { (text : List ℕ) (ts rest : List Lexeme) → sentence_reading text ts ≡ Err rest
+        → (p : ℕ) × IsFault (IsSentence text) ts p × (rest ≡ drop p ts) }
+    ensures found { (text : List ℕ) (ts : List Lexeme) (p : ℕ) → IsFault (IsSentence text) ts p
+        → sentence_reading text ts ≡ Err (drop p ts) }
 {}

@@ -12,7 +12,10 @@ ghost use Rattle.vern_sentence.specs.Names.{names_of_sentence, IsFreeName, IsNam
 /// sign. Of vern_lex's tokens it is one of the kind `Name`, and where they are all tokens of the text, its bytes are
 /// one whole name of the language.
 pub fn names_are_names_of_the_tokens()
-    ensures lexemes { (text : List ℕ) (ts : List Lexeme) (t : Sentence) → IsSentence text ts t → All (λ x. Contains ts (spelled x)) (names_of_sentence t) }
-    ensures tokens { (text : List ℕ) (tokens : List Token) (t : Sentence) → IsSentence text (lexemes text tokens) t → All (λ x. IsNameOf text tokens x) (names_of_sentence t) }
-    ensures free { (text : List ℕ) (t : Sentence) → IsSentence text (lexemes text (tokens_of text)) t → All (λ x. IsFreeName x.text) (names_of_sentence t) }
+    ensures lexemes { (text : List ℕ) (ts : List Lexeme) (t : Sentence) → IsSentence text ts t
+        → All (λ x. Contains ts (spelled x)) (names_of_sentence t) }
+    ensures tokens { (text : List ℕ) (tokens : List Token) (t : Sentence) → IsSentence text (lexemes text tokens) t
+        → All (λ x. IsNameOf text tokens x) (names_of_sentence t) }
+    ensures free { (text : List ℕ) (t : Sentence) → IsSentence text (lexemes text (tokens_of text)) t
+        → All (λ x. IsFreeName x.text) (names_of_sentence t) }
 {}

@@ -11,7 +11,8 @@ list_all-take_while p [] = refl
 list_all-take_while p (x ∷ xs) = by (p x) refl (list_all-take_while p xs)
   where
     by : (b : Bool) → p x ≡ b → list_all p (take_while p xs) ≡ true → list_all p (take_while p (x ∷ xs)) ≡ true
-    by true e h = ap (list_all p) (take_while-cons p x xs ∙ ap (λ t. cond t (x ∷ take_while p xs) []) e) ∙ and_from (p x) (list_all p (take_while p xs)) e h
+    by true e h = ap (list_all p) (take_while-cons p x xs ∙ ap (λ t. cond t (x ∷ take_while p xs) []) e)
+        ∙ and_from (p x) (list_all p (take_while p xs)) e h
     by false e h = ap (list_all p) (take_while-cons p x xs ∙ ap (λ t. cond t (x ∷ take_while p xs) []) e)
 
 -- the first element that fails a test ends what is taken
@@ -19,7 +20,8 @@ take_while_stops : (p : ℕ → Bool) (xs ys : List ℕ) (y : ℕ) → list_all 
 take_while_stops p [] ys y _ e = take_while-cons p y ys ∙ ap (λ b. cond b (y ∷ take_while p ys) []) e
 take_while_stops p (x ∷ xs) ys y a e =
     let parts = and_parts (p x) (list_all p xs) a in
-    take_while-cons p x (xs ++ y ∷ ys) ∙ ap (λ b. cond b (x ∷ take_while p (xs ++ y ∷ ys)) []) parts.0 ∙ ap (λ zs. x ∷ zs) (take_while_stops p xs ys y parts.1 e)
+    take_while-cons p x (xs ++ y ∷ ys) ∙ ap (λ b. cond b (x ∷ take_while p (xs ++ y ∷ ys)) []) parts.0
+    ∙ ap (λ zs. x ∷ zs) (take_while_stops p xs ys y parts.1 e)
 
 -- a free name is a name, and isn't reserved
 pub IsName-first_name : (text : List ℕ) → is_free (first_name text) ≡ true → IsName (first_name text)

@@ -1,8 +1,11 @@
 -- What a text is read as.
-use Rattle.std.proofs.Common.{◌≡◌, ◌≢◌, ℕ, ◌-◌, ◌<◌, ◌≤◌, List, [], ◌∷◌, ◌++◌, length, take, drop, get_or, Bool, true, false, not, ◌&&◌, ◌==◌, nat_eq, nat_le, nat_lt, if◌then◌else◌, codes, Result, Ok, Err, Decides, take-append-drop, get_or-drop, get_or-take, refl, sym, ap, ◌∙◌, subst, ⊎_elim, arith}
+use Rattle.std.proofs.Common.{◌≡◌, ◌≢◌, ℕ, ◌-◌, ◌<◌, ◌≤◌, List, [], ◌∷◌, ◌++◌, length, take, drop, get_or, Bool, true, false, not, ◌&&◌}
+use Rattle.std.proofs.Common.{◌==◌, nat_eq, nat_le, nat_lt, if◌then◌else◌, codes, Result, Ok, Err, Decides, take-append-drop, get_or-drop}
+use Rattle.std.proofs.Common.{get_or-take, refl, sym, ap, ◌∙◌, subst, ⊎_elim, arith}
 use Rattle.std.specs.List.{list_all}
 use Rattle.std.specs.Cmp.Lexicographic.{pointwise}
-use Rattle.std.proofs.lemmas.Bool.{and_parts, and_from, false≢true, not-true, not_from_false, eqb-true, eqb-false, eq-eqb, ne_eqb, ltb-true, lt-ltb, leb-true, le-leb, cases_lt}
+use Rattle.std.proofs.lemmas.Bool.{and_parts, and_from, false≢true, not-true, not_from_false, eqb-true, eqb-false, eq-eqb, ne_eqb}
+use Rattle.std.proofs.lemmas.Bool.{ltb-true, lt-ltb, leb-true, le-leb, cases_lt}
 use Rattle.std.proofs.lemmas.List.{append_cancel_left}
 use Rattle.std.proofs.lemmas.List.Sums.{AllPass-from_list_all, list_all-from_AllPass}
 use Rattle.std.proofs.lemmas.Slice.Eq.{bytes_eq-Decides}
@@ -90,7 +93,8 @@ lacks_name-Decides text =
           (and_from (front && long) (not spaced)
           (and_from front long ((bytes_eq-Decides (take 10 text) (codes "Parameter ")).1 l.begins) (lt-ltb 10 (length text) l.goes_on))
           (not_from_false spaced (ne_eqb (get_or text 10 0) 32 l.no_space)))
-          (and_from last inner (eq-eqb (get_or text (length text - 1) 0) 46 l.ends) (list_all-from_AllPass is_inner (take (length text - 1) text) l.alone)))
+          (and_from last inner (eq-eqb (get_or text (length text - 1) 0) 46 l.ends)
+          (list_all-from_AllPass is_inner (take (length text - 1) text) l.alone)))
           (le-leb (length text) 65536 l.short))
           (not_from_false free l.no_name),
     )
@@ -112,8 +116,10 @@ reading_is text r h = one_reading text r (parameter_of text) h (reading text)
 -- ---- what the code has read
 
 -- a text that ends with a full stop is one sentence where what stands before it passes
-pub ends-is_one_sentence : (text : List ℕ) (r : Bool) → get_or text (length text - 1) 0 ≡ 46 → r ≡ list_all is_inner (take (length text - 1) text) → r ≡ is_one_sentence text
-ends-is_one_sentence text r last inner = inner ∙ ap (λ t. t && list_all is_inner (take (length text - 1) text)) (sym (eq-eqb (get_or text (length text - 1) 0) 46 last))
+pub ends-is_one_sentence : (text : List ℕ) (r : Bool) → get_or text (length text - 1) 0 ≡ 46
+    → r ≡ list_all is_inner (take (length text - 1) text) → r ≡ is_one_sentence text
+ends-is_one_sentence text r last inner = inner
+    ∙ ap (λ t. t && list_all is_inner (take (length text - 1) text)) (sym (eq-eqb (get_or text (length text - 1) 0) 46 last))
 
 pub too_long : (text : List ℕ) → 65536 < length text → IsReading text (Err Unsupported)
 too_long text long = (λ name d. absurd (omega (arith, d.short)), λ l. absurd (omega (arith, l.short)))
@@ -130,13 +136,15 @@ other_rest text name after whole is free apart = (
   λ l. false≢true (sym l.no_name ∙ ap is_free (sym is) ∙ free),
 )
 
-pub declared : (text name after copy : List ℕ) → pointwise nat_eq (take 10 text) (codes "Parameter ") ≡ true → drop 10 text ≡ name ++ after → name ≡ first_name (drop 10 text)
+pub declared : (text name after copy : List ℕ) → pointwise nat_eq (take 10 text) (codes "Parameter ") ≡ true
+    → drop 10 text ≡ name ++ after → name ≡ first_name (drop 10 text)
     → is_free name ≡ true → pointwise nat_eq after (codes " : Prop.") ≡ true → length text ≤ 65536 → copy ≡ name → IsReading text (Ok copy)
 declared text name after copy begins whole is free ends short same =
     let front = (bytes_eq-Decides (take 10 text) (codes "Parameter ")).0 begins in
     let back = (bytes_eq-Decides after (codes " : Prop.")).0 ends in
     let spelled : text ≡ codes "Parameter " ++ name ++ codes " : Prop." =
-    sym (take-append-drop 10 text) ∙ ap (λ t. t ++ drop 10 text) front ∙ ap (λ t. codes "Parameter " ++ t) (whole ∙ ap (λ t. name ++ t) back) in
+    sym (take-append-drop 10 text) ∙ ap (λ t. t ++ drop 10 text) front
+    ∙ ap (λ t. codes "Parameter " ++ t) (whole ∙ ap (λ t. name ++ t) back) in
     let named : IsName name = subst IsName (sym is) (IsName-first_name (drop 10 text) (ap is_free (sym is) ∙ free)) in
     subst (Declares text) (sym same) record { spelled = spelled; is_name = named; is_free = is_reserved-free name free; short = short }
 
@@ -149,20 +157,24 @@ no_space_first : (rest : List ℕ) → pointwise nat_eq (32 ∷ []) (take 1 rest
 no_space_first [] e is = absurd (omega (arith, is))
 no_space_first (b ∷ bs) e is = false≢true (sym e ∙ and_from (nat_eq 32 b) true (eq-eqb 32 b (sym is)) refl)
 
-pub no_name_free : (text name : List ℕ) → name ≡ first_name (drop 10 text) → is_free name ≡ false → (LacksName text → ⊥) → IsReading text (Err Unsupported)
+pub no_name_free : (text name : List ℕ) → name ≡ first_name (drop 10 text) → is_free name ≡ false → (LacksName text → ⊥)
+    → IsReading text (Err Unsupported)
 no_name_free text name is reserved lacks = (λ m d. false≢true (sym reserved ∙ ap is_free is ∙ Declares-free text m d), lacks)
 
-pub spaced : (text name : List ℕ) → name ≡ first_name (drop 10 text) → is_free name ≡ false → pointwise nat_eq (32 ∷ []) (take 1 (drop 10 text)) ≡ true → IsReading text (Err Unsupported)
+pub spaced : (text name : List ℕ) → name ≡ first_name (drop 10 text) → is_free name ≡ false
+    → pointwise nat_eq (32 ∷ []) (take 1 (drop 10 text)) ≡ true → IsReading text (Err Unsupported)
 spaced text name is reserved space =
     no_name_free text name is reserved (λ l. l.no_space (sym (get_or-drop 10 text 0 0) ∙ space_first (drop 10 text) space))
 
-pub unclosed : (text name : List ℕ) → name ≡ first_name (drop 10 text) → is_free name ≡ false → is_one_sentence text ≡ false → IsReading text (Err Unsupported)
+pub unclosed : (text name : List ℕ) → name ≡ first_name (drop 10 text) → is_free name ≡ false → is_one_sentence text ≡ false
+    → IsReading text (Err Unsupported)
 unclosed text name is reserved open_end =
     no_name_free text name is reserved
     (λ l.
     let last = eq-eqb (get_or text (length text - 1) 0) 46 l.ends in
     let inner = list_all-from_AllPass is_inner (take (length text - 1) text) l.alone in
-    false≢true (sym open_end ∙ and_from (get_or text (length text - 1) 0 == 46) (list_all is_inner (take (length text - 1) text)) last inner))
+    false≢true (sym open_end ∙ and_from (get_or text (length text - 1) 0 == 46) (list_all is_inner (take (length text - 1) text)) last
+    inner))
 
 -- the whole of the second row
 goes_on : (text : List ℕ) → take 10 text ≡ codes "Parameter " → 10 ≤ length text → get_or text (length text - 1) 0 ≡ 46 → 10 < length text
@@ -175,8 +187,10 @@ goes_on text front long last =
     absurd (omega (arith, ninth, same)))
     (cases_lt 10 (length text))
 
-pub closed : (text name : List ℕ) → pointwise nat_eq (take 10 text) (codes "Parameter ") ≡ true → name ≡ first_name (drop 10 text) → is_free name ≡ false
-    → pointwise nat_eq (32 ∷ []) (take 1 (drop 10 text)) ≡ false → is_one_sentence text ≡ true → 10 ≤ length text → length text ≤ 65536 → IsReading text (Err (At 10))
+pub closed : (text name : List ℕ) → pointwise nat_eq (take 10 text) (codes "Parameter ") ≡ true → name ≡ first_name (drop 10 text)
+    → is_free name ≡ false
+    → pointwise nat_eq (32 ∷ []) (take 1 (drop 10 text)) ≡ false → is_one_sentence text ≡ true → 10 ≤ length text → length text ≤ 65536
+    → IsReading text (Err (At 10))
 closed text name begins is reserved unspaced one long short =
     let front = (bytes_eq-Decides (take 10 text) (codes "Parameter ")).0 begins in
     let parts = and_parts (get_or text (length text - 1) 0 == 46) (list_all is_inner (take (length text - 1) text)) one in

@@ -1,5 +1,6 @@
 -- Names and reserved words.
-use Rattle.std.specs.Prelude.{◌≡◌, ℕ, ◌&&◌, ◌||◌, ◌==◌, List, [], ◌∷◌, Bool, true, false, not, nat_eq, nat_le, take_while, if◌then◌else◌, codes}
+use Rattle.std.specs.Prelude.{◌≡◌, ℕ, ◌&&◌, ◌||◌, ◌==◌, List, [], ◌∷◌, Bool, true, false, not, nat_eq, nat_le, take_while, if◌then◌else◌}
+use Rattle.std.specs.Prelude.{codes}
 use Rattle.std.specs.List.{AllPass, list_any}
 use Rattle.std.specs.Cmp.Lexicographic.{pointwise}
 
@@ -20,6 +21,7 @@ IsName (b ∷ bs) = (begins_name b ≡ true) × AllPass continues_name bs
 abbrev pub reserved_words : List (List ℕ)
 reserved_words = codes "forall" ∷ codes "exists" ∷ codes "Prop" ∷ codes "Set" ∷ codes "True" ∷ codes "False" ∷ codes "as" ∷ codes "in" ∷ []
 
+-- the name is a reserved word
 abbrev pub is_reserved : List ℕ → Bool
 is_reserved name = list_any (λ word. pointwise nat_eq word name) reserved_words
 

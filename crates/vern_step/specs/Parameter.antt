@@ -1,5 +1,6 @@
 -- The table of sentences: what each text declares, or its fault.
-use Rattle.std.specs.Prelude.{◌≡◌, ◌≢◌, ℕ, ◌-◌, ◌<◌, ◌≤◌, ◌&&◌, ◌==◌, List, ◌++◌, length, take, drop, slice_index, Bool, false, not, nat_eq, nat_lt, nat_le, if◌then◌else◌, codes, Result, Ok, Err}
+use Rattle.std.specs.Prelude.{◌≡◌, ◌≢◌, ℕ, ◌-◌, ◌<◌, ◌≤◌, ◌&&◌, ◌==◌, List, ◌++◌, length, take, drop, slice_index, Bool, false, not}
+use Rattle.std.specs.Prelude.{nat_eq, nat_lt, nat_le, if◌then◌else◌, codes, Result, Ok, Err}
 use Rattle.std.specs.List.{AllPass, list_all}
 use Rattle.std.specs.Cmp.Lexicographic.{pointwise}
 use Rattle.vern_step.specs.Name.{IsName, is_reserved, first_name, is_free}
@@ -39,16 +40,21 @@ IsReading text (Err NoMemory) = ⊥
 
 -- ---- the reading of a text, computed
 
+-- the text declares a parameter
 abbrev pub declares : List ℕ → Bool
-declares text = is_free (first_name (drop 10 text)) && pointwise nat_eq text (codes "Parameter " ++ first_name (drop 10 text) ++ codes " : Prop.") && nat_le (length text) 65536
+declares text = is_free (first_name (drop 10 text)) && pointwise nat_eq text
+    (codes "Parameter " ++ first_name (drop 10 text) ++ codes " : Prop.") && nat_le (length text) 65536
 
 -- the text ends with a full stop, and before it are no other and no `(`
 abbrev pub is_one_sentence : List ℕ → Bool
 is_one_sentence text = slice_index text (length text - 1) == 46 && list_all is_inner (take (length text - 1) text)
 
+-- the text lacks the name of its parameter
 abbrev pub lacks_name : List ℕ → Bool
-lacks_name text = pointwise nat_eq (take 10 text) (codes "Parameter ") && nat_lt 10 (length text) && not (slice_index text 10 == 32) && is_one_sentence text && nat_le (length text) 65536
+lacks_name text = pointwise nat_eq (take 10 text) (codes "Parameter ") && nat_lt 10 (length text) && not (slice_index text 10 == 32) &&
+    is_one_sentence text && nat_le (length text) 65536
     && not (is_free (first_name (drop 10 text)))
 
+-- what a text is read as, by the table
 abbrev pub parameter_of : List ℕ → Result (List ℕ) FirstFault
 parameter_of text = if declares text then Ok (first_name (drop 10 text)) else (if lacks_name text then Err (At 10) else Err Unsupported)

@@ -18,7 +18,8 @@ impl<S: Standing> DocLock<S> {
     pub fn new(alloc: Global, state: S, seats: u32) -> Result<(DocLock<S>, Seat<S>), S>
         requires seats { 0 < seats }
         requires empty { S.list state ≡ [] }
-        ensures made { MatchResult result (λ t. (seats_of t.0 ≡ seats) × (IsOf t.0 t.1) × (knows t.1 ≡ starting S.origin state)) (λ s. s ≡ state) }
+        ensures made { MatchResult result (λ t. (seats_of t.0 ≡ seats) × (IsOf t.0 t.1)
+            × (knows t.1 ≡ starting S.origin state)) (λ s. s ≡ state) }
     {
         // The table begins with an empty slot and with the flag of seat 0, which takes the slot and puts the
         // state home.

@@ -13,7 +13,8 @@ use crate::standing::Standing;
 impl<S: Standing> Held<'_, S> {
     /// The state, to read and to change. What is written through it is what `give_back` gives.
     pub fn state(&mut self) -> &mut S
-        ensures* writes_back { sem 𝓛 (Lends (the_row (record { mir = named 1; lft = [] }) S.row S.Entry.row S.Origin.row S.Standing) S.row self.entry result (with_state self.old)) }
+        ensures* writes_back { sem 𝓛 (Lends (the_row (record { mir = named 1; lft = [] }) S.row S.Entry.row S.Origin.row S.Standing) S.row
+            self.entry result (with_state self.old)) }
         ensures value { result.now ≡ held_state self.old }
     {
         &mut self.state

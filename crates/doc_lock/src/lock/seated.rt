@@ -28,7 +28,8 @@ impl<S: Standing> DocLock<S> {
         requires lock { IsOf self.now seat.old }
         requires free { (knows seat.old).holds ≡ false }
         ensures lock { IsBeside seat.old seat.new }
-        ensures tried { MatchTried result (λ h. (IsHeldOf self.now h) × Gets S.list S.author S.origin (knows seat.old) (knows seat.new) (held_state h)) (Misses (knows seat.old) (knows seat.new)) }
+        ensures tried { MatchTried result (λ h. (IsHeldOf self.now h)
+            × Gets S.list S.author S.origin (knows seat.old) (knows seat.new) (held_state h)) (Misses (knows seat.old) (knows seat.new)) }
     {
         let flag = u64::from(seat.number) + 1;
         let shared = &self.table.shared;

@@ -5,4 +5,12 @@ use Rattle.lock_trial.proofs.threads.deal.Given as goal
 
 abbrev pub invariant-loop : goal.invariant-loop
 invariant-loop l =
-    record { first : IsIdle l.lock 0 l.seat; fresh : IsFresh (knows l.seat); made : (knows l.seat).made ≡ l.counter + 1; len : vec_len l.writers ≡ l.counter; ready : EachWriter (IsReady l.lock) l.writers.items; room : vec_capacity l.writers ≡ vec_capacity l.initial.writers; origin : (knows l.seat).origin ≡ (knows l.initial.seat).origin }
+    record {
+      first : IsIdle l.lock 0 l.seat;
+      fresh : IsFresh (knows l.seat);
+      made : (knows l.seat).made ≡ l.counter + 1;
+      len : vec_len l.writers ≡ l.counter;
+      ready : EachWriter (IsReady l.lock) l.writers.items;
+      room : vec_capacity l.writers ≡ vec_capacity l.initial.writers;
+      origin : (knows l.seat).origin ≡ (knows l.initial.seat).origin;
+    }

@@ -14,7 +14,8 @@ invariant-loop-writer l =
       made : (knows l.seat).made ≡ (knows l.initial.seat).made;
       origin : (knows l.seat).origin ≡ (knows l.initial.seat).origin;
       mine : (knows l.seat).mine ≡ (knows l.initial.seat).mine;
-      written : IfOk l.all (λ _. (n : ℕ) → EachWriter (IsDone n l.lock) l.initial.writers.items → Each (λ p. p.mine ≡ notes_by p.number n) (knows l.seat).joined);
+      written : IfOk l.all (λ _. (n : ℕ) → EachWriter (IsDone n l.lock) l.initial.writers.items
+          → Each (λ p. p.mine ≡ notes_by p.number n) (knows l.seat).joined);
     }
 
 abbrev pub decreases-loop-writer : goal.decreases-loop-writer

@@ -7,5 +7,6 @@ pub loop-what-preserved : goal.loop-what-preserved
 loop-what-preserved g c = let inv = c.loop-what.invariant in record {
   idle = search rules;
   same = search rules;
-  written = writes_more (knows c.args.seat.now).number (knows c.loop-what.seat).number c.loop-what.what _ _ inv.idle.1 inv.written c.in_ok-write_note.ensures.mine;
+  written = writes_more (knows c.args.seat.now).number (knows c.loop-what.seat).number c.loop-what.what _ _ inv.idle.1 inv.written
+      c.in_ok-write_note.ensures.mine;
 }

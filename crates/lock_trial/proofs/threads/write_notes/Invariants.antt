@@ -5,4 +5,8 @@ use Rattle.lock_trial.proofs.threads.write_notes.Given as goal
 
 abbrev pub invariant-loop-what : goal.invariant-loop-what
 invariant-loop-what g l =
-    record { idle : IsIdle l.lock (knows l.initial.seat).number l.seat; same : Keeps (knows l.initial.seat) (knows l.seat); written : (knows l.seat).mine ≡ notes_by (knows l.initial.seat).number l.what }
+    record {
+      idle : IsIdle l.lock (knows l.initial.seat).number l.seat;
+      same : Keeps (knows l.initial.seat) (knows l.seat);
+      written : (knows l.seat).mine ≡ notes_by (knows l.initial.seat).number l.what;
+    }

@@ -1,5 +1,5 @@
 use Rattle.std.proofs.Common.{◌≡◌, drop}
-use Rattle.serapi_ans.specs.Reading.{number_from}
+use Rattle.serapi_ans.specs.ReadBack.{number_from}
 use Rattle.serapi_ans.proofs.read.number_from.Given as goal
 
 abbrev pub invariant-loop-digit : goal.invariant-loop-digit

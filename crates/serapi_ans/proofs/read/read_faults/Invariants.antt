@@ -1,7 +1,7 @@
 use Rattle.std.proofs.Common.{◌≡◌, ◌++◌, drop, map}
 use Rattle.sexp_theory.specs.Values.{values}
 use Rattle.sexp_core.specs.Sexp.{meaning}
-use Rattle.serapi_ans.specs.Reading.{faults_in}
+use Rattle.serapi_ans.specs.ReadBack.{faults_in}
 use Rattle.serapi_ans.proofs.read.read_faults.Given as goal
 
 abbrev pub invariant-loop-value : goal.invariant-loop-value

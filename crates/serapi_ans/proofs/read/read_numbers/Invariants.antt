@@ -1,7 +1,7 @@
 use Rattle.std.proofs.Common.{◌≡◌, ◌++◌, drop, map}
 use Rattle.sexp_theory.specs.Values.{values}
 use Rattle.sexp_core.specs.Sexp.{meaning}
-use Rattle.serapi_ans.specs.Reading.{numbers_in}
+use Rattle.serapi_ans.specs.ReadBack.{numbers_in}
 use Rattle.serapi_ans.proofs.read.read_numbers.Given as goal
 
 abbrev pub invariant-loop-value : goal.invariant-loop-value

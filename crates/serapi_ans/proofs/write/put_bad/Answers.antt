@@ -7,8 +7,9 @@ use Rattle.serapi_ans.proofs.write.put_bad.Goals as goal
 
 pub returns-in-Word : goal.returns-in-Word
 returns-in-Word g c =
-    put_as _ _ _ _ c.put_atom.ensures (ap (λ b. text (atom b)) c.as_slice.ensures ∙ ap (λ e. text (bad_value e)) (sym c.in-Word.is))
+    put_as c.put_atom.ensures (ap (λ b. text (atom b)) c.as_slice.ensures ∙ ap (λ e. text (bad_value e)) (sym c.in-Word.is))
 
 pub returns-in-BadField : goal.returns-in-BadField
 returns-in-BadField g c =
-    put_as _ _ _ _ c.put_named.ensures (ap (λ b. text (pair (codes "BadField") (atom b))) c.as_slice-in-BadField.ensures ∙ ap (λ e. text (bad_value e)) (sym c.in-BadField.is))
+    put_as c.put_named.ensures (ap (λ b. text (pair (codes "BadField") (atom b))) c.as_slice-in-BadField.ensures
+    ∙ ap (λ e. text (bad_value e)) (sym c.in-BadField.is))

@@ -12,4 +12,4 @@ loop-id-preserved g c =
     (ap numbers_behind (number_at c.args.ids.now c.loop-id.id-index c.loop-id-test.true))
 
 pub returns : goal.returns
-returns g c = all_put _ _ numbers_behind _ c.args.ids.now c.loop-id.id-index refl c.loop-id-test.false c.loop-id.invariant
+returns g c = all_put numbers_behind _ c.args.ids.now c.loop-id.id-index refl c.loop-id-test.false c.loop-id.invariant

@@ -4,4 +4,4 @@ use Rattle.serapi_ans.proofs.Putting.{put_pair}
 use Rattle.serapi_ans.proofs.write.put_canceled.Goals as goal
 
 pub returns : goal.returns
-returns g c = put_pair _ _ _ _ (codes "Canceled") (list_of (map number c.args.ids.now)) c.open.ensures c.put_ids.ensures c.put.ensures
+returns g c = put_pair (codes "Canceled") (list_of (map number c.args.ids.now)) c.open.ensures c.put_ids.ensures c.put.ensures

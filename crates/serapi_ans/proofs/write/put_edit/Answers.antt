@@ -6,8 +6,8 @@ use Rattle.serapi_ans.proofs.write.put_edit.Goals as goal
 
 pub returns-in-NewTip : goal.returns-in-NewTip
 returns-in-NewTip g c =
-    put_as _ _ _ _ c.put_numbered.ensures (ap (λ e. text (edit_value e)) (sym c.in-NewTip.is))
+    put_as c.put_numbered.ensures (ap (λ e. text (edit_value e)) (sym c.in-NewTip.is))
 
 pub returns-in-Focus : goal.returns-in-Focus
 returns-in-Focus g c =
-    put_as _ _ _ _ c.put_focus.ensures (ap (λ e. text (edit_value e)) (sym c.in-Focus.is))
+    put_as c.put_focus.ensures (ap (λ e. text (edit_value e)) (sym c.in-Focus.is))

@@ -4,4 +4,4 @@ use Rattle.serapi_ans.proofs.Putting.{put_pair}
 use Rattle.serapi_ans.proofs.write.put_edit_at.Goals as goal
 
 pub returns : goal.returns
-returns g c = put_pair _ _ _ _ (codes "EditAt") (edit_value c.args.edit) c.open.ensures c.put_edit.ensures c.put.ensures
+returns g c = put_pair (codes "EditAt") (edit_value c.args.edit) c.open.ensures c.put_edit.ensures c.put.ensures

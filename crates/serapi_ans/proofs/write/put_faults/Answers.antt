@@ -15,4 +15,4 @@ loop-fault-preserved g c =
     ∙ ap (λ b. text (fault_value (c.fault-item.result.0, b)) ++ fault_texts more) (sym c.as_slice.ensures))
 
 pub returns : goal.returns
-returns g c = all_put _ _ fault_texts _ c.args.faults.now c.loop-fault.fault-index refl c.loop-fault-test.false c.loop-fault.invariant
+returns g c = all_put fault_texts _ c.args.faults.now c.loop-fault.fault-index refl c.loop-fault-test.false c.loop-fault.invariant

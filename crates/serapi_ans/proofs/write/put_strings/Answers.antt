@@ -15,4 +15,4 @@ loop-text-preserved g c =
     ∙ ap (λ b. text (string_value b) ++ string_texts more) (sym c.as_slice.ensures))
 
 pub returns : goal.returns
-returns g c = all_put _ _ string_texts _ c.args.texts.now c.loop-text.text-index refl c.loop-text-test.false c.loop-text.invariant
+returns g c = all_put string_texts _ c.args.texts.now c.loop-text.text-index refl c.loop-text-test.false c.loop-text.invariant

@@ -6,9 +6,10 @@ use Rattle.serapi_ans.proofs.write.write_verdict.Goals as goal
 
 pub returns-in-None : goal.returns-in-None
 returns-in-None g c =
-    put_as _ _ _ _ c.write_feedback.ensures (ap (λ v. line_text (lines.Feedback c.args.id c.args.route v)) (sym c.in-None.is))
+    put_as c.write_feedback.ensures (ap (λ v. line_text (lines.Feedback c.args.id c.args.route v)) (sym c.in-None.is))
 
 pub returns-in-Some : goal.returns-in-Some
 returns-in-Some g c =
-    put_as _ _ _ _ c.write_feedback-in-Some.ensures
-    (ap (λ b. line_text (lines.Feedback c.args.id c.args.route (Some b))) c.as_slice.ensures ∙ ap (λ v. line_text (lines.Feedback c.args.id c.args.route v)) (sym c.in-Some.is))
+    put_as c.write_feedback-in-Some.ensures
+    (ap (λ b. line_text (lines.Feedback c.args.id c.args.route (Some b))) c.as_slice.ensures
+    ∙ ap (λ v. line_text (lines.Feedback c.args.id c.args.route v)) (sym c.in-Some.is))

@@ -5,4 +5,5 @@ use Rattle.serapi_cmd.specs.Options.{add_option, no_add_option}
 use Rattle.serapi_cmd.proofs.options.read_add_list.Given as goal
 
 abbrev pub invariant-loop-option : goal.invariant-loop-option
-invariant-loop-option l = read_each add_option l.given (meanings (drop l.option-index l.options)) ≡ read_each add_option no_add_option (meanings l.options)
+invariant-loop-option l = read_each add_option l.given (meanings (drop l.option-index l.options))
+    ≡ read_each add_option no_add_option (meanings l.options)

@@ -1,6 +1,6 @@
 use Rattle.std.proofs.Common.{◌≡◌, length, false}
 use Rattle.sexp_theory.specs.Items.{end_offset, items_of, most_bytes}
-use Rattle.session_run.specs.Histories.{place}
+use Rattle.session_run.specs.Histories.{standing}
 use Rattle.session_run.specs.Serving.{Continues, EndsAlike, Went}
 use Rattle.session_run.proofs.serve.answer_items.Given as goal
 
@@ -14,6 +14,6 @@ invariant-items g l = record {
   offset : end_offset l.reader.unread ≡ end_offset l.fn.reader.unread;
   limit : l.reader.limit ≡ most_bytes;
   clean : l.live.output.failed ≡ false;
-  going : (place l.live.entries).quit ≡ false;
+  going : (standing l.live.entries).quit ≡ false;
   output : Continues l.fn.live.output l.live.output;
 }

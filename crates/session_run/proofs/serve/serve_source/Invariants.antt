@@ -1,5 +1,5 @@
 use Rattle.std.proofs.Common.{◌≡◌, ◌≤◌, ◌-◌, false}
-use Rattle.session_run.specs.Histories.{place}
+use Rattle.session_run.specs.Histories.{standing}
 use Rattle.session_run.specs.Serving.{Continues, IsIdle, IsReading}
 use Rattle.session_run.specs.declared.serve.TheConstants.{INPUT_LIMIT}
 use Rattle.session_run.proofs.serve.serve_source.Given as goal
@@ -12,7 +12,7 @@ invariant-pieces g l = let S = g.S.Source in record {
   reading : IsReading (S.left l.fn.source) (S.left l.source) l.taken l.live.entries l.reader.unread;
   idle : IsIdle l.reader l.taken;
   clean : l.live.output.failed ≡ false;
-  going : (place l.live.entries).quit ≡ false;
+  going : (standing l.live.entries).quit ≡ false;
   within : l.taken ≤ INPUT_LIMIT;
   same : S.faults l.source ≡ S.faults l.fn.source;
   output : Continues l.fn.live.output l.live.output;

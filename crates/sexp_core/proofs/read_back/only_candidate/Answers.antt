@@ -5,16 +5,19 @@ use Rattle.sexp_core.proofs.read_back.only_candidate.Goals as goal
 pub returns-in-Some-Value : goal.returns-in-Some-Value
 returns-in-Some-Value c =
     let next = c.in_ok-sexp.ensures in
-    decided c.args.bytes.now c.next.new.self _ _ c.in_ok-reader.ensures c.in_ok-feed.ensures.fed c.in_ok-feed-2.ensures.fed (omega arith) next.given next.of_bytes next.shallow
+    decided c.args.bytes.now c.next.new.self _ _ c.in_ok-reader.ensures c.in_ok-feed.ensures.fed c.in_ok-feed-2.ensures.fed (omega arith)
+    next.given next.of_bytes next.shallow
     (c.in-Some-Value.is ∙ ap Some c.in-Some-Value.field-0-is)
 
 pub returns-in-Some-Bad : goal.returns-in-Some-Bad
 returns-in-Some-Bad c =
     let next = c.in_ok-sexp.ensures in
-    decided c.args.bytes.now c.next.new.self _ _ c.in_ok-reader.ensures c.in_ok-feed.ensures.fed c.in_ok-feed-2.ensures.fed (omega arith) next.given next.of_bytes next.shallow
+    decided c.args.bytes.now c.next.new.self _ _ c.in_ok-reader.ensures c.in_ok-feed.ensures.fed c.in_ok-feed-2.ensures.fed (omega arith)
+    next.given next.of_bytes next.shallow
     (c.in-Some-Bad.is ∙ ap Some c.in-Some-Bad.field-0-is)
 
 pub returns : goal.returns
 returns c =
     let next = c.in_ok-sexp.ensures in
-    decided c.args.bytes.now c.next.new.self _ _ c.in_ok-reader.ensures c.in_ok-feed.ensures.fed c.in_ok-feed-2.ensures.fed (omega arith) next.given next.of_bytes next.shallow c.in-None.is
+    decided c.args.bytes.now c.next.new.self _ _ c.in_ok-reader.ensures c.in_ok-feed.ensures.fed c.in_ok-feed-2.ensures.fed (omega arith)
+    next.given next.of_bytes next.shallow c.in-None.is

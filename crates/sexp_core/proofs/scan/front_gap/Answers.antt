@@ -18,7 +18,8 @@ loop-len-preserved c =
     elim c.if-in_line.branch [
       | then-in_line w ↦ passed-line c.loop-len.invariant lt w.if-in_line.true w.in_line-is
       | else-in_line+then-byte-eq59 w ↦ passed-comment c.loop-len.invariant lt w.if-in_line.false w.if-byte-eq59.true w.in_line-is
-      | else-in_line+else-byte-eq59+else-not-is_blank w ↦ passed-blank c.loop-len.invariant lt w.if-in_line.false w.if-not-is_blank.ensures w.in_line-is
+      | else-in_line+else-byte-eq59+else-not-is_blank w
+          ↦ passed-blank c.loop-len.invariant lt w.if-in_line.false w.if-not-is_blank.ensures w.in_line-is
     ]
 
 pub returns : goal.returns

@@ -3,7 +3,8 @@ use Rattle.sexp_core.proofs.Putting.{put_in_parentheses, put_value, value_at, ne
 use Rattle.sexp_core.proofs.writer.+write.Goals as goal
 
 pub write-returns-in-List : goal.write-returns-in-List
-write-returns-in-List g t c = put_in_parentheses _ _ _ _ _ c.in-List.sexps _ c.in-List.is c.deref.ensures.value c.put.ensures c.write_all.ensures c.put-in-List.ensures
+write-returns-in-List g t c = put_in_parentheses _ _ _ _ _ c.in-List.sexps _ c.in-List.is c.deref.ensures.value c.put.ensures
+    c.write_all.ensures c.put-in-List.ensures
 
 pub write_all-loop-sexp-preserved : goal.write_all-loop-sexp-preserved
 write_all-loop-sexp-preserved g t c =

@@ -15,7 +15,8 @@ pub returns-clause-items_are : goal.returns-clause-items_are
 returns-clause-items_are c = lemmas.items_are
 
 pub returns-clause-items_one : goal.returns-clause-items_one
-returns-clause-items_one c = λ limit ended u items others h k. sym (lemmas.items_are limit ended u items h) ∙ lemmas.items_are limit ended u others k
+returns-clause-items_one c = λ limit ended u items others h k. sym (lemmas.items_are limit ended u items h)
+    ∙ lemmas.items_are limit ended u others k
 
 pub returns-clause-end_computed : goal.returns-clause-end_computed
 returns-clause-end_computed c = lemmas.end_computed

@@ -4,10 +4,17 @@ use Rattle.vern_lex.proofs.comments.closers_table.Goals as goal
 
 pub closers_here-here-requires : goal.closers_here-here-requires
 closers_here-here-requires c =
-    omega (arith, c.ends.invariant.is_second, closers-within (drop (c.ends.place + 1) c.args.text.now), length-drop (c.ends.place + 1) c.args.text.now)
+    omega (
+      arith,
+      c.ends.invariant.is_second,
+      closers-within (drop (c.ends.place + 1) c.args.text.now),
+      length-drop (c.ends.place + 1) c.args.text.now,
+    )
 
 pub ends-preserved : goal.ends-preserved
 ends-preserved c =
-    subst (λ table. IsBegun c.args.text.now table (c.ends.place - 1) c.closers_here-here.result c.ends.next) (sym c.in_ok-push-2.ensures.items)
-    (table_grown c.args.text.now c.ends.table.items c.split_at.result.1.now c.ends.place (c.ends.place - 1) c.ends.next c.ends.second c.closers_here-here.result c.ends.invariant c.ends-test.true refl c.split_at.ensures.back
+    subst (λ table. IsBegun c.args.text.now table (c.ends.place - 1) c.closers_here-here.result c.ends.next)
+    (sym c.in_ok-push-2.ensures.items)
+    (table_grown c.args.text.now c.ends.table.items c.split_at.result.1.now c.ends.place
+    (c.ends.place - 1) c.ends.next c.ends.second c.closers_here-here.result c.ends.invariant c.ends-test.true refl c.split_at.ensures.back
     c.closers_here-here.ensures)

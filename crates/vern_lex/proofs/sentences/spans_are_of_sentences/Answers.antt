@@ -1,6 +1,7 @@
 use Rattle.vern_lex.proofs.Alone.{spans_alone}
 use Rattle.vern_lex.proofs.Between.{spans_between, spans_left}
 use Rattle.vern_lex.proofs.Cutting.{spans_rise, spans_each, spans_rest}
+use Rattle.vern_lex.proofs.Endings.{spans_whole}
 use Rattle.vern_lex.proofs.Faults.{spans_faulted}
 use Rattle.vern_lex.proofs.sentences.spans_are_of_sentences.Goals as goal
 
@@ -24,3 +25,6 @@ returns-clause-left c = spans_left
 
 pub returns-clause-faulted : goal.returns-clause-faulted
 returns-clause-faulted c = spans_faulted
+
+pub returns-clause-whole : goal.returns-clause-whole
+returns-clause-whole c = spans_whole

@@ -5,10 +5,12 @@ use Rattle.vern_parse.proofs.Loops.{gives_expression, lacks_expression, stops_ex
 use Rattle.vern_parse.proofs.read.expression.Goals as goal
 
 pub returns-in_err-mode-clause-fault : goal.returns-in_err-mode-clause-fault
-returns-in_err-mode-clause-fault c = let p = err_from_is_err_and c.from_residual.result c.from_residual.ensures.1 in rw (p.1, p.2) (stops_expression c.in_err-mode.field-0.0 _ _ _ (ap frames c.new-stack.ensures) c.in_err-mode.ensures.fault)
+returns-in_err-mode-clause-fault c = let p = err_from_is_err_and c.from_residual.result c.from_residual.ensures.1 in
+    rw (p.1, p.2) (stops_expression c.in_err-mode.field-0.0 _ _ _ (ap frames c.new-stack.ensures) c.in_err-mode.ensures.fault)
 
 pub returns-in-Ok-clause-tree : goal.returns-in-Ok-clause-tree
 returns-in-Ok-clause-tree c = gives_expression _ _ _ _ _ (ap frames c.new-stack.ensures) c.in_ok-mode.ensures.state c.in-Ok.ensures
 
 pub returns-in-Err-Refused-clause-fault : goal.returns-in-Err-Refused-clause-fault
-returns-in-Err-Refused-clause-fault c = lacks_expression _ _ _ _ (ap frames c.new-stack.ensures) c.in_ok-mode.ensures.state (rw c.in-Err-Refused.field-0-is at c.in-Err-Refused.ensures)
+returns-in-Err-Refused-clause-fault c = lacks_expression _ _ _ _ (ap frames c.new-stack.ensures) c.in_ok-mode.ensures.state
+    (rw c.in-Err-Refused.field-0-is at c.in-Err-Refused.ensures)

@@ -8,4 +8,5 @@ use Rattle.vern_step.proofs.name.is_reserved.Goals as goal
 pub returns : goal.returns
 returns c =
     let test : Bor (List ℕ) → Bool = λ word. pointwise nat_eq word.now c.args.name.now in
-    any_from_yields_List test _ _ _ c.any.ensures.ran (YieldsList-from_slice c.iter.result.rest.now refl) (λ x b q k. search (rules, tests)) ∙ ap (list_any test) c.iter.ensures.rest
+    any_from_yields_List test _ _ _ c.any.ensures.ran (YieldsList-from_slice c.iter.result.rest.now refl)
+    (λ x b q k. search (rules, tests)) ∙ ap (list_any test) c.iter.ensures.rest

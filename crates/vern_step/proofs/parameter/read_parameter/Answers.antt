@@ -7,7 +7,8 @@ use Rattle.vern_step.specs.Name.{first_name, is_free}
 use Rattle.vern_step.specs.declared.parameter.FirstFault.TheVariants.{At, Unsupported}
 use Rattle.vern_step.proofs.Readings.{reading_is, too_long, other_rest, declared, spaced, unclosed, closed}
 use Rattle.vern_step.proofs.parameter.read_parameter.Goals as goal
-use Rattle.vern_step.proofs.parameter.read_parameter.Goals.{then-starts_with-via-then-starts_with, then-starts_with-via-else-starts_with+then-not-is_one_sentence}
+use Rattle.vern_step.proofs.parameter.read_parameter.Goals.{then-starts_with-via-then-starts_with}
+use Rattle.vern_step.proofs.parameter.read_parameter.Goals.{then-starts_with-via-else-starts_with+then-not-is_one_sentence}
 
 pub returns-then-text-gt-SENTENCE_LIMIT : goal.returns-then-text-gt-SENTENCE_LIMIT
 returns-then-text-gt-SENTENCE_LIMIT c =
@@ -22,7 +23,8 @@ returns-then-ne c =
     let rest = c.in-Some.ensures.cases.1 in
     let named : name ≡ first_name (drop 10 text) = c.split_name.ensures.name ∙ ap first_name rest in
     let apart : pointwise nat_eq after (codes " : Prop.") ≡ false =
-    ap (pointwise nat_eq after) (sym c.as_slice.ensures) ∙ not-true (pointwise nat_eq after c.as_slice.result.now) (sym c.ne.ensures ∙ c.if-ne.true) in
+    ap (pointwise nat_eq after) (sym c.as_slice.ensures)
+    ∙ not-true (pointwise nat_eq after c.as_slice.result.now) (sym c.ne.ensures ∙ c.if-ne.true) in
     let row = other_rest text name after (sym rest ∙ c.split_name.ensures.whole) named (sym c.is_free.ensures ∙ c.if-is_free.true) apart in
     record { table = inr row; value = inr (reading_is text (Err Unsupported) row); no_memory_only_at_a_name = λ e. absurd (cc) }
 
@@ -35,8 +37,10 @@ returns-then-is_free c =
     let rest = c.in-Some.ensures.cases.1 in
     let named : name ≡ first_name (drop 10 text) = c.split_name.ensures.name ∙ ap first_name rest in
     let ends : pointwise nat_eq after (codes " : Prop.") ≡ true =
-    ap (pointwise nat_eq after) (sym c.as_slice.ensures) ∙ not-false (pointwise nat_eq after c.as_slice.result.now) (sym c.ne.ensures ∙ c.if-ne.false) in
-    let row = declared text name after copy c.in-Some.ensures.cases.0 (sym rest ∙ c.split_name.ensures.whole) named (sym c.is_free.ensures ∙ c.if-is_free.true) ends
+    ap (pointwise nat_eq after) (sym c.as_slice.ensures)
+    ∙ not-false (pointwise nat_eq after c.as_slice.result.now) (sym c.ne.ensures ∙ c.if-ne.false) in
+    let row = declared text name after copy c.in-Some.ensures.cases.0 (sym rest ∙ c.split_name.ensures.whole) named (sym c.is_free.ensures
+    ∙ c.if-is_free.true) ends
     c.if-text-gt-SENTENCE_LIMIT.false c.in_ok-from_slice.ensures in
     record { table = inr row; value = inr (reading_is text (Ok copy) row); no_memory_only_at_a_name = λ e. absurd (cc) }
 
@@ -64,7 +68,8 @@ returns c =
     let rest = c.in-Some.ensures.cases.1 in
     let named : name ≡ first_name (drop 10 text) = c.split_name.ensures.name ∙ ap first_name rest in
     let unspaced = ap (λ t. starts_with nat_eq t (codes " ")) (sym rest) ∙ sym c.starts_with.ensures.value ∙ c.if-starts_with.false in
-    let row = closed text name c.in-Some.ensures.cases.0 named (sym c.is_free.ensures ∙ c.if-is_free.false) unspaced (sym c.is_one_sentence.ensures ∙ c.if-not-is_one_sentence.false)
+    let row = closed text name c.in-Some.ensures.cases.0 named (sym c.is_free.ensures
+    ∙ c.if-is_free.false) unspaced (sym c.is_one_sentence.ensures ∙ c.if-not-is_one_sentence.false)
     (omega (arith, c.in-Some.ensures.cases.2)) c.if-text-gt-SENTENCE_LIMIT.false in
     record { table = inr row; value = inr (reading_is text (Err (At 10)) row); no_memory_only_at_a_name = λ e. absurd (cc) }
 
@@ -77,9 +82,11 @@ returns-in_err-from_slice-clause-no_memory_only_at_a_name c =
     let rest = c.in-Some.ensures.cases.1 in
     let named : name ≡ first_name (drop 10 text) = c.split_name.ensures.name ∙ ap first_name rest in
     let ends : pointwise nat_eq after (codes " : Prop.") ≡ true =
-    ap (pointwise nat_eq after) (sym c.as_slice.ensures) ∙ not-false (pointwise nat_eq after c.as_slice.result.now) (sym c.ne.ensures ∙ c.if-ne.false) in
+    ap (pointwise nat_eq after) (sym c.as_slice.ensures)
+    ∙ not-false (pointwise nat_eq after c.as_slice.result.now) (sym c.ne.ensures ∙ c.if-ne.false) in
     λ e. (
       name,
-      declared text name after name c.in-Some.ensures.cases.0 (sym rest ∙ c.split_name.ensures.whole) named (sym c.is_free.ensures ∙ c.if-is_free.true) ends
+      declared text name after name c.in-Some.ensures.cases.0 (sym rest ∙ c.split_name.ensures.whole) named (sym c.is_free.ensures
+          ∙ c.if-is_free.true) ends
           c.if-text-gt-SENTENCE_LIMIT.false refl,
     )

@@ -13,7 +13,8 @@ pub store-requires : goal.store-requires
 store-requires g c = let me = c.in-Ok.ensures.4 in (
   search rules,
   search rules,
-  takes_empty g.S.Standing.list g.S.Standing.author g.S.Standing.origin _ _ _ (ap (λ m. m.0.live) me) (ap (λ m. m.0.number) me) (ap (λ m. m.0.seen) me) (ap (λ m. m.0.holds) me) (ap (λ m. m.0.origin) me),
+  takes_empty g.S.Standing.list g.S.Standing.author g.S.Standing.origin _ _ _ (ap (λ m. m.0.live) me) (ap (λ m. m.0.number) me)
+      (ap (λ m. m.0.seen) me) (ap (λ m. m.0.holds) me) (ap (λ m. m.0.origin) me),
 )
 
 pub returns : goal.returns
@@ -23,7 +24,8 @@ returns g c = let me = c.in-Ok.ensures.4 in let taken = c.store.ensures.2 in
       made = (
         refl,
         search rules,
-        ap (λ m. m.0) c.put_home.ensures.home ∙ (ap (λ (v : View g.row.S-Entry.Denot g.row.S-Origin.Denot). given_back g.S.Standing.list g.S.Standing.author g.S.Standing.origin v c.args.state) before
+        ap (λ m. m.0) c.put_home.ensures.home ∙ (ap (λ (v : View g.row.S-Entry.Denot g.row.S-Origin.Denot).
+            given_back g.S.Standing.list g.S.Standing.author g.S.Standing.origin v c.args.state) before
             ∙ starts g.S.Standing.list g.S.Standing.author g.S.Standing.origin c.args.state c.requires.empty),
       );
     }

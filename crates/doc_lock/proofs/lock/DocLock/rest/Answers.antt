@@ -3,4 +3,8 @@ use Rattle.doc_lock.proofs.Steps.{looks}
 use Rattle.doc_lock.proofs.lock.DocLock.rest.Goals as goal
 
 pub load-found-requires : goal.load-found-requires
-load-found-requires g c = (search rules, search rules, looks g.S.Standing.list g.S.Standing.author g.S.Standing.origin _ _ _ c.loop.seat.numbered.2)
+load-found-requires g c = (
+  search rules,
+  search rules,
+  looks g.S.Standing.list g.S.Standing.author g.S.Standing.origin _ _ _ c.loop.seat.numbered.2,
+)

@@ -1,6 +1,7 @@
 use Rattle.std.proofs.Common.{arith, sym}
 use Rattle.std.proofs.lemmas.Bool.Decides.{nat_tests}
-use Rattle.sexp_core.proofs.Fronts.{looked, seen_within, finishes-empty, finishes-unfinished, finishes-last, last-of_bytes, only-more, unread-of_bytes}
+use Rattle.sexp_core.proofs.Fronts.{looked, seen_within, finishes-empty, finishes-unfinished, finishes-last, last-of_bytes, only-more}
+use Rattle.sexp_core.proofs.Fronts.{unread-of_bytes}
 use Rattle.sexp_core.proofs.reader.Reader.finish.Goals as goal
 
 pub returns-then-is_empty-clause-given : goal.returns-then-is_empty-clause-given
@@ -20,7 +21,8 @@ unreachable-requires c =
 pub returns-then-not-is_outer_run-clause-given : goal.returns-then-not-is_outer_run-clause-given
 returns-then-not-is_outer_run-clause-given c =
     let l = looked c.self.invariant c.first_item.ensures c.self.view_is c.deref.ensures.value in
-    finishes-unfinished l (grind (arith, nat_tests)) c.in_ok-scan.field-0 c.scan.new.machine c.in-More.is c.in_ok-scan.ensures (sym c.if-not-is_outer_run.ensures)
+    finishes-unfinished l (grind (arith, nat_tests)) c.in_ok-scan.field-0 c.scan.new.machine c.in-More.is c.in_ok-scan.ensures
+    (sym c.if-not-is_outer_run.ensures)
 
 pub returns-clause-given : goal.returns-clause-given
 returns-clause-given c =

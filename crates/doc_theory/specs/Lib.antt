@@ -1,0 +1,16 @@
+pub mod Lists
+pub mod Documents
+pub mod Editing
+pub mod Checks
+pub mod Answers
+pub mod Histories
+pub mod Invariants
+pub mod Tasks
+pub mod Told
+pub mod Notes
+pub mod Flat
+pub mod Line
+pub mod Numbers
+pub mod Shape
+pub mod Toy
+pub mod Rows

@@ -1,0 +1,4 @@
+pub mod Steps
+pub mod Told
+pub mod Choices
+pub mod Cancels

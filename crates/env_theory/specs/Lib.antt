@@ -1,0 +1,10 @@
+pub mod Declarations
+pub mod Typing
+pub mod Normal
+pub mod Heads
+pub mod Orders
+pub mod Thinned
+pub mod Count
+pub mod Scopes
+pub mod Machine
+pub mod Compare

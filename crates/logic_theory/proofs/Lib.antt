@@ -1,0 +1,5 @@
+pub mod Derived
+pub mod Trees
+pub mod Grafting
+pub mod Leading
+pub mod ThinnedTrees

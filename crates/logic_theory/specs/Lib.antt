@@ -1,0 +1,5 @@
+pub mod Derivations
+pub mod Goals
+pub mod Grafts
+pub mod Named
+pub mod Rules

@@ -1,0 +1,6 @@
+pub mod Apart
+pub mod Names
+pub mod Printing
+pub mod Reading
+pub mod Spelling
+pub mod Trees

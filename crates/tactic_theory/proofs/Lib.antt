@@ -1,0 +1,13 @@
+pub mod Found
+pub mod Shown
+pub mod Instanced
+pub mod Stripped
+pub mod Reached
+pub mod Applied
+pub mod Rows
+pub mod Proved
+pub mod Worked
+pub mod Fresh
+pub mod Apart
+pub mod Named
+pub mod Typed

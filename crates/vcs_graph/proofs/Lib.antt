@@ -1,0 +1,16 @@
+pub mod Lookups
+pub mod Places
+pub mod Viewed
+pub mod Keeps
+pub mod Lasts
+pub mod Located
+pub mod Befores
+pub mod Zones
+pub mod Cuts
+pub mod Drops
+pub mod Forgets
+pub mod Held
+pub mod Absent
+pub mod Seated
+pub mod Listed
+pub mod Cleared

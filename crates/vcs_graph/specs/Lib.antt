@@ -1,0 +1,9 @@
+pub mod SegmentView
+pub mod EndingView
+pub mod Parts
+pub mod Table
+pub mod GraphView
+pub mod Blocks
+pub mod Sites
+pub mod Removals
+pub mod Branches
