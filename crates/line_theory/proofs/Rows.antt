@@ -36,8 +36,8 @@ opened = record { items = start; focus = zone 4 (5 ∷ 6 ∷ 7 ∷ []) (opaque 1
 
 adding_makes_the_first_block : merged 11 true
     (committed 10
-        (committed 9 (committed 8 (committed 7 (committed 6 (committed 5 (begun 4 (committed 3 (committed 2 empty)))))))))
-  ≡ one_block
+    (committed 9 (committed 8 (committed 7 (committed 6 (committed 5 (begun 4 (committed 3 (committed 2 empty)))))))))
+    ≡ one_block
 adding_makes_the_first_block = refl
 
 adding_makes_the_second_block : merged 15 true (committed 14 (committed 13 (begun 12 one_block))) ≡ two_blocks
@@ -47,7 +47,7 @@ adding_makes_the_second_block = refl
 
 -- what stands between the id and the closer goes, and the second block stays
 an_id_inside_goes : cancelled (8 ∷ []) two_blocks
-  ≡ record { line = opened; edits = focused 4 11 15 ∷ []; gone = 8 ∷ 9 ∷ 10 ∷ []; treated = 1; stopped = None }
+    ≡ record { line = opened; edits = focused 4 11 15 ∷ []; gone = 8 ∷ 9 ∷ 10 ∷ []; treated = 1; stopped = None }
 an_id_inside_goes = refl
 
 the_cursor_stands_behind_the_id_before : cursor opened ≡ 7
@@ -65,7 +65,7 @@ three_are_lost = refl
 
 -- an id in the tail ends it before anything goes
 the_tail_is_refused : cancelled (13 ∷ 7 ∷ []) opened
-  ≡ record { line = opened; edits = []; gone = []; treated = 0; stopped = Some (13, 11) }
+    ≡ record { line = opened; edits = []; gone = []; treated = 0; stopped = Some (13, 11) }
 the_tail_is_refused = refl
 
 an_edit_in_the_tail_is_refused : edited 12 opened ≡ zone_open 11
@@ -76,7 +76,7 @@ two_come_in : ids (committed 17 (committed 16 opened)) ≡ 2 ∷ 3 ∷ 4 ∷ 5 �
 two_come_in = refl
 
 closing_keeps_closer_and_tail : refolded (committed 17 (committed 16 opened))
-  ≡ record { items = lone 2 ∷ lone 3 ∷ block 4 (5 ∷ 6 ∷ 7 ∷ 16 ∷ 17 ∷ []) (opaque 11) ∷ second ∷ []; focus = last closed }
+    ≡ record { items = lone 2 ∷ lone 3 ∷ block 4 (5 ∷ 6 ∷ 7 ∷ 16 ∷ 17 ∷ []) (opaque 11) ∷ second ∷ []; focus = last closed }
 closing_keeps_closer_and_tail = refl
 
 the_tip_is_the_last_of_the_tail : tip (refolded (committed 17 (committed 16 opened))) ≡ 15
@@ -93,23 +93,23 @@ the_closer_stands_behind_a_later_id = refl
 
 -- 5 is in the line only once, and 1 and 99 never
 each_id_is_sought_in_what_is_left : cancelled (5 ∷ 5 ∷ 1 ∷ 99 ∷ []) one_block
-  ≡ record {
+    ≡ record {
       line = record { items = start; focus = zone 4 [] (opaque 11) [] closed };
       edits = focused 4 11 11 ∷ [];
       gone = six;
       treated = 4;
-      stopped = None
+      stopped = None;
     }
 each_id_is_sought_in_what_is_left = refl
 
 -- without its closer the block is open at the end
 a_closer_goes : cancelled (11 ∷ []) one_block
-  ≡ record {
+    ≡ record {
       line = record { items = start; focus = last (proof 4 six) };
       edits = new_tip 10 ∷ [];
       gone = 11 ∷ [];
       treated = 1;
-      stopped = None
+      stopped = None;
     }
 a_closer_goes = refl
 
