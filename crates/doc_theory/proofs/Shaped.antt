@@ -87,6 +87,8 @@ use Rattle.doc_theory.specs.Editing.{
   in_focus,
   seat_or,
   seat,
+  refocus,
+  only,
   unclose,
   reopen,
   reenter,
@@ -96,6 +98,8 @@ use Rattle.doc_theory.specs.Editing.{
   unknown,
   refused_by,
   changed,
+  edit_at,
+  edit,
   remove_at,
   remove,
   outcome_in,
@@ -115,6 +119,7 @@ use Rattle.serapi_ans.specs.declared.line.Line.TheVariants.{EditAt}
 use Rattle.doc_theory.specs.Answers.{Removed, cancel_step, cancel_all}
 use Rattle.doc_theory.specs.Invariants.{IfAdded, Sound, FormedFocus}
 use Rattle.doc_theory.specs.Shape.{closing, shape_items, shape_end, shape_focus, shape, shape_edited, told_as, CancelsAs, put}
+use Rattle.line_theory.proofs.Lists.{test_same, test_equal, test_back}
 use Rattle.doc_theory.proofs.Forgotten.{map_join}
 use Rattle.doc_theory.proofs.Places.{named, of_items, named_join, named_fall, line_parts, zone_parts, ids_line, ids_items, marks_ids}
 
@@ -399,3 +404,190 @@ attempt_at_shape d p x (close abort) (zone l b c t o) q e h = tt
 
 pub attempt_shape : (d : Document) (p : ℕ) (x : Sentence) → Sound d → IfAdded (λ e. shape e ≡ put x.kind d.next (shape d)) (attempt d p x)
 attempt_shape d p x s = attempt_at_shape d p x x.kind d.focus refl refl s.focus
+
+-- ---- edit
+
+-- the entry that was found has the id
+abbrev SplitAt : ℕ → Split → Type 0
+SplitAt i (found f e k) = i ≡ e.id
+SplitAt i unfound = Unit {0}
+
+abbrev SpotAt : ℕ → Spot → Type 0
+SpotAt i (at_lone a e t) = i ≡ e.id
+SpotAt i (at_lemma a l b c t) = i ≡ l.id
+SpotAt i (at_inner a l f e k c t) = i ≡ e.id
+SpotAt i (at_closer a l b c t) = Unit {0}
+SpotAt i missing = Unit {0}
+
+after_at : (i : ℕ) (x : Entry) (s : Split) → SplitAt i s → SplitAt i (after x s)
+after_at i x (found f e k) h = h
+after_at i x unfound h = h
+
+split_at : (i : ℕ) (b : List Entry) → SplitAt i (split i b)
+split_at i [] = tt
+split_at i (e ∷ b) = go (nat_eq i e.id) refl (after_at i e (split i b) (split_at i b))
+  where
+    go : (c : Bool) → nat_eq i e.id ≡ c → SplitAt i (after e (split i b))
+        → SplitAt i (if c then found [] e b else after e (split i b))
+    go true q h = test_equal i e.id q
+    go false q h = h
+
+under_at : (i : ℕ) (x : Item) (s : Spot) → SpotAt i s → SpotAt i (under x s)
+under_at i x (at_lone a e t) h = h
+under_at i x (at_lemma a l b c t) h = h
+under_at i x (at_inner a l f e k c t) h = h
+under_at i x (at_closer a l b c t) h = h
+under_at i x missing h = h
+
+if_at : (i : ℕ) (c : Bool) (x y : Spot) → (c ≡ true → SpotAt i x) → SpotAt i y → SpotAt i (if c then x else y)
+if_at i true x y h k = h refl
+if_at i false x y h k = k
+
+inside_at : (i : ℕ) (l : Entry) (b : List Entry) (c : Entry) (t : List Item) (s : Split) (x : Spot) → SplitAt i s → SpotAt i x
+    → SpotAt i (inside i l b c t s x)
+inside_at i l b c t (found f e k) x h u = h
+inside_at i l b c t unfound x h k = if_at i (nat_eq i c.id) (at_closer [] l b c t) x (λ q. tt) k
+
+locate_at : (i : ℕ) (xs : List Item) → SpotAt i (locate i xs)
+locate_at i [] = tt
+locate_at i (lone e ∷ t) = if_at i (nat_eq i e.id) (at_lone [] e t) _ (λ q. test_equal i e.id q)
+    (under_at i (lone e) (locate i t) (locate_at i t))
+locate_at i (block l b c ∷ t) = if_at i (nat_eq i l.id) (at_lemma [] l b c t) _ (λ q. test_equal i l.id q)
+    (inside_at i l b c t (split i b) _ (split_at i b) (under_at i (block l b c) (locate i t) (locate_at i t)))
+
+-- what is dropped, and where a zone is opened, at the place that was found
+dropped_to : (i : ℕ) (d : Document) (s : Spot) → nat_eq i 1 ≡ false → locate i d.items ≡ s
+    → lines.dropped i (shape d) ≡ lines.dropped_at i (shape_spot s) (shape d)
+dropped_to i d s n q = ap (λ z. if z then lines.empty else lines.dropped_at i (lines.locate i (shape_items d.items)) (shape d)) n
+    ∙ ap (λ z. lines.dropped_at i z (shape d)) (locate_shape i d.items ∙ ap shape_spot q)
+
+zoned_to : (i : ℕ) (d : Document) (s : Spot) (o : End) → d.focus ≡ last o → locate i d.items ≡ s
+    → lines.zoned i (shape d) ≡ lines.zoned_at i (shape_spot s) (shape d) (shape_end o)
+zoned_to i d s o e q = ap (λ z. lines.zoned_in i (shape d) (shape_focus z)) e
+    ∙ ap (λ z. lines.zoned_at i z (shape d) (shape_end o)) (locate_shape i d.items ∙ ap shape_spot q)
+
+-- at the lemma or inside of a closed block the edit is that of its front
+block_edit : (i : ℕ) (d : Document) (s : Spot) (a : List Item) (l : Entry) (f : List Entry) (c : Entry) (t : List Item)
+    → edits.takes_zone (shape_spot s) ≡ reopens c.sentence.kind
+    → lines.dropped i (shape d) ≡ edits.line_of (shape_items a) (last (proof l.id (named f)))
+    → ((o : End) → d.focus ≡ last o
+    → lines.zoned i (shape d) ≡ edits.line_of (shape_items a) (zone l.id (named f) (closing c) (shape_items t) (shape_end o)))
+    → edits.changed (edits.edited_among i (shape_spot s) (shape d) (shape_focus d.focus))
+    ≡ edits.changed (shape (reenter d.focus a l f c t d))
+block_edit i d s a l f c t w p z = ap edits.changed (go d.focus refl ∙ reenter_shape d d.focus a l f c t)
+  where
+    go : (g : Focus) → d.focus ≡ g
+        → edits.edited_among i (shape_spot s) (shape d) (shape_focus g)
+        ≡ edits.reentered (shape_focus g) (shape_items a) l.id (named f) (closing c) (shape_items t)
+    go (last o) e = λ j. if w j then z o e j else p j
+    go (zone m b k u o) e = p
+
+lone_edit : (i : ℕ) (d : Document) (s : Spot) (n : lines.Line) → edits.takes_zone (shape_spot s) ≡ false
+    → lines.dropped i (shape d) ≡ n
+    → edits.changed (edits.edited_among i (shape_spot s) (shape d) (shape_focus d.focus)) ≡ edits.changed n
+lone_edit i d s n w p = ap edits.changed (go d.focus)
+  where
+    go : (g : Focus) → edits.edited_among i (shape_spot s) (shape d) (shape_focus g) ≡ n
+    go (last o) = ap (λ z. if z then lines.zoned i (shape d) else lines.dropped i (shape d)) w ∙ p
+    go (zone m b k u o) = p
+
+-- in the block that is open at the cursor
+open_edit : (i : ℕ) (d : Document) (g : Focus) (f gone : List Entry) → d.focus ≡ g
+    → edits.edited_open i (shape d) (shape_focus d.focus)
+    ≡ edits.line_of (shape_items d.items) (edits.shortened (shape_focus g) (named f))
+    → edits.changed (edits.edited_open i (shape d) (shape_focus d.focus))
+    ≡ edits.changed (shape (refocus d.items (shorten d.focus f gone) d))
+open_edit i d g f gone e h = ap edits.changed
+    (h ∙ ap (λ z. edits.line_of (shape_items d.items) (edits.shortened (shape_focus z) (named f))) (sym e)
+    ∙ ap (edits.line_of (shape_items d.items)) (shorten_shape d.focus f gone))
+
+end_open : (i : ℕ) (d : Document) (o : End) → nat_eq i 1 ≡ false → locate i d.items ≡ missing → d.focus ≡ last o
+    → edits.edited_open i (shape d) (shape_focus d.focus) ≡ lines.dropped_open i (shape_items d.items) (shape_focus (last o))
+end_open i d o n q e = ap (λ z. edits.edited_open i (shape d) (shape_focus z)) e ∙ dropped_to i d missing n q
+    ∙ ap (λ z. lines.dropped_open i (shape_items d.items) (shape_focus z)) e
+
+zone_open_at : (i : ℕ) (d : Document) (l : Entry) (b : List Entry) (c : Entry) (t : List Item) (o : End) → d.focus ≡ zone l b c t o
+    → edits.edited_open i (shape d) (shape_focus d.focus) ≡ lines.zoned_in i (shape d) (shape_focus (zone l b c t o))
+zone_open_at i d l b c t o e = ap (λ z. edits.edited_open i (shape d) (shape_focus z)) e
+    ∙ ap (λ z. lines.zoned_in i (shape d) (shape_focus z)) e
+
+focus_edit : (i : ℕ) (d : Document) (g : Focus) → nat_eq i 1 ≡ false → locate i d.items ≡ missing → d.focus ≡ g
+    → edits.edited_at i (shape_seat (in_focus i g)) (shape d) ≡ shape_edited (edit_at (in_focus i g) d)
+focus_edit i d (last closed) n q e = refl
+focus_edit i d (last (proof l b)) n q e = go (nat_eq i l.id) refl (split i b) refl (split_at i b)
+  where
+    go : (c : Bool) → nat_eq i l.id ≡ c → (s : Split) → split i b ≡ s → SplitAt i s
+        → edits.edited_at i (shape_seat (if c then open_lemma l b else in_inside l s nowhere)) (shape d)
+        ≡ shape_edited (edit_at (if c then open_lemma l b else in_inside l s nowhere) d)
+    go true w s r h = open_edit i d (last (proof l b)) [] b e (end_open i d (proof l b) n q e
+        ∙ ap (λ z. if z then edits.line_of (shape_items d.items) (last (proof l.id []))
+        else lines.dropped_inside (shape_items d.items) l.id (named b) i (lines.split i (named b))) w)
+    go false w (found f x k) r h = open_edit i d (last (proof l b)) (f ++ x ∷ []) k e (end_open i d (proof l b) n q e
+        ∙ ap (λ z. if z then edits.line_of (shape_items d.items) (last (proof l.id []))
+        else lines.dropped_inside (shape_items d.items) l.id (named b) i (lines.split i (named b))) w
+        ∙ ap (lines.dropped_inside (shape_items d.items) l.id (named b) i) (split_shape i b ∙ ap shape_split r)
+        ∙ ap (λ z. edits.line_of (shape_items d.items) (last (proof l.id z)))
+        (ap (λ z. named f ++ (z ∷ [])) h ∙ sym (named_join f (x ∷ []))))
+    go false w unfound r h = refl
+focus_edit i d (zone l b c t o) n q e = go (nat_eq i l.id) refl (split i b) refl (split_at i b)
+  where
+    behind_it : (x : Bool) → edits.edited_at i (shape_seat (if x then behind c else nowhere)) (shape d)
+        ≡ shape_edited (edit_at (if x then behind c else nowhere) d)
+    behind_it true = refl
+    behind_it false = refl
+
+    go : (x : Bool) → nat_eq i l.id ≡ x → (s : Split) → split i b ≡ s → SplitAt i s
+        → edits.edited_at i (shape_seat (if x then open_lemma l b else in_inside l s (in_tail i c t o))) (shape d)
+        ≡ shape_edited (edit_at (if x then open_lemma l b else in_inside l s (in_tail i c t o)) d)
+    go true w s r h = open_edit i d (zone l b c t o) [] b e (zone_open_at i d l b c t o e
+        ∙ ap (λ z. if z then edits.line_of (shape_items d.items) (zone l.id [] (closing c) (shape_items t) (shape_end o))
+        else lines.zoned_inside (shape_items d.items) l.id (named b) (closing c) (shape_items t) (shape_end o) i
+        (lines.split i (named b))) w)
+    go false w (found f x k) r h = open_edit i d (zone l b c t o) (f ++ x ∷ []) k e (zone_open_at i d l b c t o e
+        ∙ ap (λ z. if z then edits.line_of (shape_items d.items) (zone l.id [] (closing c) (shape_items t) (shape_end o))
+        else lines.zoned_inside (shape_items d.items) l.id (named b) (closing c) (shape_items t) (shape_end o) i
+        (lines.split i (named b))) w
+        ∙ ap (lines.zoned_inside (shape_items d.items) l.id (named b) (closing c) (shape_items t) (shape_end o) i)
+        (split_shape i b ∙ ap shape_split r)
+        ∙ ap (λ z. edits.line_of (shape_items d.items) (zone l.id z (closing c) (shape_items t) (shape_end o)))
+        (ap (λ z. named f ++ (z ∷ [])) h ∙ sym (named_join f (x ∷ []))))
+    go false w unfound r h = behind_it (has i (c.id ∷ map (λ m. m.id) (item_marks t ++ end_marks o)))
+
+spot_edit : (i : ℕ) (d : Document) (s : Spot) → nat_eq i 1 ≡ false → locate i d.items ≡ s → SpotAt i s
+    → edits.edited_at i (shape_seat (seat_or s (in_focus i d.focus))) (shape d)
+    ≡ shape_edited (edit_at (seat_or s (in_focus i d.focus)) d)
+spot_edit i d (at_lone a e t) n q h = lone_edit i d (at_lone a e t) _ refl (dropped_to i d (at_lone a e t) n q
+    ∙ ap (λ z. edits.line_of (shape_items a ++ (lone z ∷ [])) (last closed)) h
+    ∙ ap (λ z. edits.line_of z (last closed)) (sym (more_items a (lone e ∷ []))))
+spot_edit i d (at_lemma a l b c t) n q h = block_edit i d (at_lemma a l b c t) a l [] c t refl
+    (dropped_to i d (at_lemma a l b c t) n q ∙ ap (λ z. edits.line_of (shape_items a) (last (proof z []))) h)
+    (λ o e. zoned_to i d (at_lemma a l b c t) o e q
+    ∙ ap (λ z. edits.line_of (shape_items a) (zone z [] (closing c) (shape_items t) (shape_end o))) h)
+spot_edit i d (at_inner a l f e k c t) n q h = block_edit i d (at_inner a l f e k c t) a l (f ++ e ∷ []) c t refl
+    (dropped_to i d (at_inner a l f e k c t) n q ∙ ap (λ z. edits.line_of (shape_items a) (last (proof l.id z))) front)
+    (λ o g. zoned_to i d (at_inner a l f e k c t) o g q
+    ∙ ap (λ z. edits.line_of (shape_items a) (zone l.id z (closing c) (shape_items t) (shape_end o))) front)
+  where
+    front : named f ++ (i ∷ []) ≡ named (f ++ e ∷ [])
+    front = ap (λ z. named f ++ (z ∷ [])) h ∙ sym (named_join f (e ∷ []))
+spot_edit i d (at_closer a l b c t) n q h = lone_edit i d (at_closer a l b c t) _ refl (dropped_to i d (at_closer a l b c t) n q
+    ∙ ap (λ z. edits.line_of z (last closed)) (sym (more_items a (block l b c ∷ []))))
+spot_edit i d missing n q h = focus_edit i d d.focus n q refl
+
+test_turn : (m n : ℕ) → nat_eq m n ≡ nat_eq n m
+test_turn m n = go (nat_eq m n) refl
+  where
+    go : (b : Bool) → nat_eq m n ≡ b → b ≡ nat_eq n m
+    go true e = sym (ap (λ z. nat_eq n z) (test_equal m n e) ∙ test_same n)
+    go false e = sym (test_back m n e)
+
+pub edited_shape : (d : Document) (i : ℕ) → edits.edited i (shape d) ≡ shape_edited (edit d i)
+edited_shape d i = go (nat_eq i 1) refl
+    ∙ ap (λ c. shape_edited (if c then changed (only [] d) else edit_at (seat i d) d)) (test_turn i 1)
+  where
+    go : (c : Bool) → nat_eq i 1 ≡ c
+        → (if c then edits.changed lines.empty else edits.edited_at i (edits.seat i (shape d)) (shape d))
+        ≡ shape_edited (if c then changed (only [] d) else edit_at (seat i d) d)
+    go true q = refl
+    go false q = ap (λ s. edits.edited_at i s (shape d)) (seat_shape i d)
+        ∙ spot_edit i d (locate i d.items) q refl (locate_at i d.items)

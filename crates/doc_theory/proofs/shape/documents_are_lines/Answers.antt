@@ -19,6 +19,9 @@ returns-clause-lost c = shaped.lost_shape
 pub returns-clause-added : goal.returns-clause-added
 returns-clause-added c = shaped.attempt_shape
 
+pub returns-clause-edited : goal.returns-clause-edited
+returns-clause-edited c = shaped.edited_shape
+
 pub returns-clause-removed : goal.returns-clause-removed
 returns-clause-removed c = shaped.removed_shape
 
