@@ -27,3 +27,4 @@ mod Counting
 mod Losing
 mod Posted
 mod Shaped
+mod Left

@@ -4,10 +4,14 @@ ghost use Rattle.line_theory.specs.Lists.{Every, chosen};
 ghost use Rattle.serapi_ans.specs.declared.line.Line.TheVariants.{Completed};
 ghost use Rattle.doc_theory.specs.Lists.{Member};
 ghost use Rattle.doc_theory.specs.Checks.{Check, Laws, Work, works, judged, Told, checked};
-ghost use Rattle.doc_theory.specs.Answers.{answers, faults, is_wrong, joined};
+ghost use Rattle.serapi_ans.specs.declared.line.Line.{Line};
+ghost use Rattle.serapi_cmd.specs.declared.command.Command.TheVariants as cmd;
+ghost use Rattle.serapi_cmd.specs.declared.request.Request.TheVariants.{Do};
+ghost use Rattle.doc_theory.specs.Answers.{whole, left, answers, faults, is_wrong, joined};
 ghost use Rattle.doc_theory.specs.Documents.{Document, live};
 ghost use Rattle.doc_theory.specs.Histories.{
   Event,
+  command,
   claim,
   returned,
   join_answered,
@@ -20,6 +24,7 @@ ghost use Rattle.doc_theory.specs.Histories.{
   written,
   strip,
   requests,
+  fate,
   outcomes,
 };
 ghost use Rattle.doc_theory.specs.Told.{IsTold};
@@ -54,7 +59,7 @@ pub fn late_results<S>()
 
 /// Where a Join is answered every live entry is told, and its line lists exactly the ids whose verdict isn't good, in
 /// the order of the document. The verdict of each live entry is then one that is told outside of delegated blocks, or
-/// one of a row's result.
+/// one of a row's result. A Join that is neither answered nor stopped by memory is the last request.
 pub fn joined_at_the_end<S>()
     ensures told { (L : Check S) → Laws L → (limit : ℕ) (h : List Event) → Legal L limit (h ++ (join_answered ∷ []))
         → Every IsTold (live (standing L limit h).document) }
@@ -66,4 +71,7 @@ pub fn joined_at_the_end<S>()
         → (t : Told) → Member t (map noted_of (judged L (standing L limit h).document))
         → Member t (noted L (standing L limit h).document)
         ⊎ ((r : Row S) × (Member r (standing L limit h).table.rows × Member t (checked L r.work))) }
+    ensures left { (L : Check S) (limit : ℕ) (h k : List Event) (n : ℕ) (tag : List ℕ) (ls : List Line)
+        → Legal L limit (h ++ (command n (Do (record { tag = tag; command = cmd.Join })) whole ls ∷ k)) → fate k ≡ left
+        → requests k ≡ [] }
 {}

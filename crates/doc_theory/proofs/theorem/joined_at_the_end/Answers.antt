@@ -3,6 +3,7 @@ use Rattle.doc_theory.specs.Checks.{judged}
 use Rattle.doc_theory.specs.Histories.{joined_lines, standing}
 use Rattle.doc_theory.proofs.Ended as ended
 use Rattle.doc_theory.proofs.Texts as all
+use Rattle.doc_theory.proofs.Left as left
 use Rattle.doc_theory.proofs.theorem.joined_at_the_end.Goals as goal
 
 pub returns-clause-told : goal.returns-clause-told
@@ -16,3 +17,6 @@ returns-clause-texts g c = all.all_texts
 
 pub returns-clause-listed : goal.returns-clause-listed
 returns-clause-listed g c = λ L d. all.faults_are (judged L d)
+
+pub returns-clause-left : goal.returns-clause-left
+returns-clause-left g c = left.left_is_last
