@@ -223,6 +223,24 @@ closed_requests = adding (0 ∷ 8 ∷ 2 ∷ 2 ∷ 9 ∷ 13 ∷ 3 ∷ 0 ∷ []) �
 abbrev pub closed_lines : List Line
 closed_lines = between (plus 18 0 8 ∷ Added [] 11 9 13 (Some 15) ∷ []) ++ between (right 0 12 ∷ [])
 
+-- a Query without an id asks for the state at the cursor, which in a zone isn't the tip
+abbrev pub cursor_requests : List Request
+cursor_requests = asking None Goals ∷ asking (Some 15) Goals ∷ adding (0 ∷ 6 ∷ 2 ∷ 1 ∷ 7 ∷ 15 ∷ 2 ∷ 2 ∷ []) ∷ asking None Ast ∷ []
+
+abbrev pub cursor_lines : List Line
+cursor_lines = between (ObjList [] ((1 ∷ []) ∷ []) ∷ []) ++ between (ObjList [] ((0 ∷ []) ∷ []) ∷ [])
+    ++ between (plus 16 0 6 ∷ plus 17 7 15 ∷ [])
+    ++ between (ObjList [] ((2 ∷ []) ∷ []) ∷ [])
+
+-- a sentence outside of proofs is removed: all behind it goes, and a new one comes behind what is left
+abbrev pub alone_requests : List Request
+alone_requests = adding first_text ∷ canceling (3 ∷ []) ∷ executing 4 ∷ adding (0 ∷ 19 ∷ 0 ∷ 0 ∷ []) ∷ executing 12 ∷ []
+
+abbrev pub alone_lines : List Line
+alone_lines = first_added
+    ++ between (EditAt [] (NewTip 2) ∷ Canceled [] (3 ∷ 4 ∷ 5 ∷ 6 ∷ 7 ∷ 8 ∷ 9 ∷ 10 ∷ 11 ∷ []) ∷ [])
+    ++ between (refusal (exn.NoSuchState 4) ∷ []) ++ between (plus 12 0 19 ∷ []) ++ between (right 0 2 ∷ right 0 12 ∷ [])
+
 -- ---- refusals, and what is asked of a state
 
 abbrev pub refused_requests : List Request
@@ -248,6 +266,14 @@ chosen_lines = said (adding_with None (Some 1) first_text ∷ [])
 abbrev pub cut_lines : List Line
 cut_lines = answers toy 1048576 (adding first_text ∷ canceling (11 ∷ 10 ∷ []) ∷ []) (record { cut = whole; fate = ended }
     ∷ record { cut = after 1; fate = ended } ∷ [])
+
+-- none is taken where none was asked for, not even to be read; but where the client is mistaken on the cursor, that is told
+abbrev pub none_requests : List Request
+none_requests = adding_with None (Some 0) first_text ∷ adding_with None (Some 0) (0 ∷ 4 ∷ 7 ∷ 0 ∷ [])
+    ∷ adding_with (Some 4) (Some 0) first_text ∷ []
+
+abbrev pub none_lines : List Line
+none_lines = between [] ++ between [] ++ between (refusal (exn.NotTip 1) ∷ [])
 
 -- ---- late results
 
@@ -286,3 +312,10 @@ edited_run = command 0 (adding first_text) whole first_added
 
 abbrev pub edited_results : List Line
 edited_results = right 1 5 ∷ right 1 6 ∷ right 1 7 ∷ right 1 12 ∷ right 1 13 ∷ right 1 14 ∷ right 1 11 ∷ []
+
+-- a zone is opened in a block that its result has told: what stays in it is told again, now by an Exec
+abbrev pub opened_run : List Event
+opened_run = command 0 (adding first_text) whole first_added ∷ command 1 (executing 11) whole outside_told ∷ claim 1 0
+    ∷ returned 1 0 true
+    ∷ command 2 (canceling (8 ∷ [])) whole (between (EditAt [] (Focus 4 11 11) ∷ Canceled [] (8 ∷ 9 ∷ 10 ∷ []) ∷ []))
+    ∷ command 3 (executing 7) whole (between (right 0 5 ∷ right 0 6 ∷ right 0 7 ∷ [])) ∷ []

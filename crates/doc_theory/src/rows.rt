@@ -22,9 +22,12 @@ pub fn answers_are_computed()
         ++ rows.inside_lines ++ rows.again_lines }
     ensures closed { rows.said (rows.zone_requests ++ rows.inside_requests ++ rows.closed_requests) ≡ rows.zone_lines
         ++ rows.inside_lines ++ rows.closed_lines }
+    ensures cursor { rows.said (rows.zone_requests ++ rows.cursor_requests) ≡ rows.zone_lines ++ rows.cursor_lines }
+    ensures alone { rows.said rows.alone_requests ≡ rows.alone_lines }
     ensures refused { rows.said rows.refused_requests ≡ rows.refused_lines }
     ensures limited { rows.limited_lines ≡ rows.between (rows.plus 2 0 19 ∷ rows.plus 3 20 39 ∷ rows.refusal (exn.TooMany 40) ∷ []) }
     ensures chosen { rows.chosen_lines ≡ rows.between (rows.plus 2 0 19 ∷ []) }
+    ensures none { rows.said rows.none_requests ≡ rows.none_lines }
     ensures cut { rows.cut_lines ≡ rows.first_added
         ++ (Ack [] ∷ EditAt [] (NewTip 10) ∷ Canceled [] (11 ∷ []) ∷ OutOfMemory [] ∷ Completed [] ∷ []) }
 {}
@@ -46,5 +49,6 @@ pub fn histories_are_computed()
     ensures late_is_stripped { strip toy 1048576 rows.late ≡ rows.late_before ++ rows.late_joined }
     ensures lost_is_legal { Legal toy 1048576 rows.lost_run }
     ensures edited_is_legal { Legal toy 1048576 rows.edited_run }
+    ensures opened_is_legal { Legal toy 1048576 rows.opened_run }
     ensures edited { render toy 1048576 rows.edited_run ≡ strip toy 1048576 rows.edited_run ++ rows.edited_results }
 {}

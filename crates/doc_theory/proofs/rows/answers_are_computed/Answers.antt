@@ -40,3 +40,12 @@ returns-clause-chosen c = refl
 
 pub returns-clause-cut : goal.returns-clause-cut
 returns-clause-cut c = refl
+
+pub returns-clause-cursor : goal.returns-clause-cursor
+returns-clause-cursor c = refl
+
+pub returns-clause-alone : goal.returns-clause-alone
+returns-clause-alone c = refl
+
+pub returns-clause-none : goal.returns-clause-none
+returns-clause-none c = refl
