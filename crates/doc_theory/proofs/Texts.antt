@@ -310,3 +310,24 @@ faults_are (j ∷ js) = go j.verdict (faults_are js)
         ∷ chosen (λ j. is_wrong j.verdict) js else chosen (λ j. is_wrong j.verdict) js)
     go good h = h
     go (wrong t) h = ap (λ z. j.mark.id ∷ z) h
+
+-- with the texts that their lines tell
+pub fault_texts_are : {State : Type 0} (js : List (Judged State))
+    → map {A = ℕ × List ℕ} {B = ℕ × Option (List ℕ)} (λ f. (f.0, Some f.1)) (faults js)
+    ≡ map (λ j. (j.mark.id, text_of j.verdict)) (chosen (λ j. is_wrong j.verdict) js)
+fault_texts_are [] = refl
+fault_texts_are {State} (j ∷ js) = go j.verdict refl (fault_texts_are js)
+  where
+    paired : List (ℕ × List ℕ) → List (ℕ × Option (List ℕ))
+    paired fs = map (λ f. (f.0, Some f.1)) fs
+
+    wrongs : List (Judged State)
+    wrongs = chosen (λ k. is_wrong k.verdict) js
+
+    told : List (Judged State) → List (ℕ × Option (List ℕ))
+    told ks = map (λ k. (k.mark.id, text_of k.verdict)) ks
+
+    go : (v : Verdict) → j.verdict ≡ v → paired (faults js) ≡ told wrongs
+        → paired (faults_with j.mark.id v (faults js)) ≡ told (if is_wrong v then j ∷ wrongs else wrongs)
+    go good e h = h
+    go (wrong t) e h = λ i. (j.mark.id, sym (ap text_of e) i) ∷ h i

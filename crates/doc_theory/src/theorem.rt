@@ -1,14 +1,14 @@
 //! The theorem: what is written, results aside, what results write, and what a Join lists.
-ghost use Rattle.std.specs.Prelude.{◌≡◌, ◌⊎◌, ◌++◌, ◌∷◌, [], true, false, Bool, ℕ, List, map};
+ghost use Rattle.std.specs.Prelude.{◌≡◌, ◌⊎◌, ◌++◌, ◌∷◌, [], true, false, Bool, ℕ, List, map, length, Option, Some};
 ghost use Rattle.line_theory.specs.Lists.{Every, chosen};
-ghost use Rattle.serapi_ans.specs.declared.line.Line.TheVariants.{Completed};
+ghost use Rattle.serapi_ans.specs.declared.line.Line.TheVariants.{Joined, Completed};
 ghost use Rattle.doc_theory.specs.Lists.{Member};
-ghost use Rattle.doc_theory.specs.Checks.{Check, Laws, Work, works, judged, Told, checked};
+ghost use Rattle.doc_theory.specs.Checks.{Check, Laws, Work, works, text_of, judged, Told, checked};
 ghost use Rattle.serapi_ans.specs.declared.line.Line.{Line};
 ghost use Rattle.serapi_cmd.specs.declared.command.Command.TheVariants as cmd;
 ghost use Rattle.serapi_cmd.specs.declared.request.Request.TheVariants.{Do};
-ghost use Rattle.doc_theory.specs.Answers.{whole, left, answers, faults, is_wrong, joined};
-ghost use Rattle.doc_theory.specs.Documents.{Document, live};
+ghost use Rattle.doc_theory.specs.Answers.{whole, left, answers, faults, is_wrong};
+ghost use Rattle.doc_theory.specs.Documents.{Document, live, marks};
 ghost use Rattle.doc_theory.specs.Histories.{
   Event,
   command,
@@ -57,16 +57,19 @@ pub fn late_results<S>()
         → ((r : Row S) → Member r (standing L limit h).table.rows → r.number ≡ n → ⊥) → kept ≡ false }
 {}
 
-/// Where a Join is answered every live entry is told, and its line lists exactly the ids whose verdict isn't good, in
-/// the order of the document. The verdict of each live entry is then one that is told outside of delegated blocks, or
+/// Where a Join is answered every live entry is told, and its line lists exactly the ids whose verdict isn't good, each
+/// with its text, in the order of the document. The verdict of each live entry is then one that is told outside of delegated blocks, or
 /// one of a row's result. A Join that is neither answered nor stopped by memory is the last request.
 pub fn joined_at_the_end<S>()
     ensures told { (L : Check S) → Laws L → (limit : ℕ) (h : List Event) → Legal L limit (h ++ (join_answered ∷ []))
         → Every IsTold (live (standing L limit h).document) }
     ensures lines { (L : Check S) (limit : ℕ) (h : List Event) (tag : List ℕ) → (standing L limit h).mode ≡ joining tag
-        → written L (standing L limit h) join_answered ≡ joined L (standing L limit h).document tag ∷ (Completed tag ∷ []) }
+        → written L (standing L limit h) join_answered ≡ Joined tag (length (marks (standing L limit h).document))
+        (faults (judged L (standing L limit h).document)) ∷ (Completed tag ∷ []) }
     ensures listed { (L : Check S) (d : Document) → map (λ f. f.0) (faults (judged L d)) ≡ map (λ j. j.mark.id)
         (chosen (λ j. is_wrong j.verdict) (judged L d)) }
+    ensures listed_texts { (L : Check S) (d : Document) → map {A = ℕ × List ℕ} {B = ℕ × Option (List ℕ)} (λ f. (f.0, Some f.1))
+        (faults (judged L d)) ≡ map (λ j. (j.mark.id, text_of j.verdict)) (chosen (λ j. is_wrong j.verdict) (judged L d)) }
     ensures texts { (L : Check S) → Laws L → (limit : ℕ) (h : List Event) → Legal L limit (h ++ (join_answered ∷ []))
         → (t : Told) → Member t (map noted_of (judged L (standing L limit h).document))
         → Member t (noted L (standing L limit h).document)

@@ -20,3 +20,6 @@ returns-clause-listed g c = λ L d. all.faults_are (judged L d)
 
 pub returns-clause-left : goal.returns-clause-left
 returns-clause-left g c = left.left_is_last
+
+pub returns-clause-listed_texts : goal.returns-clause-listed_texts
+returns-clause-listed_texts g c = λ L d. all.fault_texts_are (judged L d)
