@@ -58,8 +58,8 @@ pub fn late_results<S>()
 {}
 
 /// Where a Join is answered every live entry is told, and its line lists exactly the ids whose verdict isn't good, each
-/// with its text, in the order of the document. The verdict of each live entry is then one that is told outside of delegated blocks, or
-/// one of a row's result. A Join that is neither answered nor stopped by memory is the last request.
+/// with its text, in the order of the document. The verdict of each live entry is then one that is told outside of
+/// delegated blocks, or one of a row's result. A Join that is neither answered nor stopped by memory is the last request.
 pub fn joined_at_the_end<S>()
     ensures told { (L : Check S) → Laws L → (limit : ℕ) (h : List Event) → Legal L limit (h ++ (join_answered ∷ []))
         → Every IsTold (live (standing L limit h).document) }
