@@ -1,8 +1,8 @@
 //! The lock, its seats and its holdings.
 ghost use Rattle.std.specs.Prelude.{◌≡◌, ◌≢◌, ℕ, true, false, [], ◌∷◌, None};
 
+use crate::guarded::Guarded;
 use crate::plays::Rule;
-use crate::standing::Standing;
 use crate::view::View;
 use atomic_table::{Shared, Table};
 use std::alloc::Global;
@@ -27,7 +27,7 @@ const STATE: usize = 0;
 
 pub(crate) type TableOf<S> = Table<
     Option<S>,
-    View<<S as Standing>::Entry, <S as Standing>::Origin>,
+    View<<S as Guarded>::Entry, <S as Guarded>::Origin>,
     (),
     Rule<S>,
     Global,
@@ -35,18 +35,18 @@ pub(crate) type TableOf<S> = Table<
 
 pub(crate) type SharedOf<S> = Shared<
     Option<S>,
-    View<<S as Standing>::Entry, <S as Standing>::Origin>,
+    View<<S as Guarded>::Entry, <S as Guarded>::Origin>,
     (),
     Rule<S>,
 >;
 
 pub(crate) type PlaceOf<S> = atomic_table::Seat<
     Option<S>,
-    View<<S as Standing>::Entry, <S as Standing>::Origin>,
+    View<<S as Guarded>::Entry, <S as Guarded>::Origin>,
 >;
 
 /// A lock over one state. Threads share it by a `&`, where the state may be sent.
-pub struct DocLock<S: Standing> {
+pub struct DocLock<S: Guarded> {
     table: TableOf<S>,
     seats: u32,
     ghost sized: { (table.shared.table_id.words ≡ 2) × (table.shared.table_id.slots ≡ 1) },
@@ -65,10 +65,10 @@ pub struct SeatOf<S, E, O> {
 }
 
 /// A seat at the lock of a state.
-pub type Seat<S> = SeatOf<S, <S as Standing>::Entry, <S as Standing>::Origin>;
+pub type Seat<S> = SeatOf<S, <S as Guarded>::Entry, <S as Guarded>::Origin>;
 
 /// A holding: the state, out of the lock. It can't be let go: it is given back.
-pub struct Held<'a, S: Standing> {
+pub struct Held<'a, S: Guarded> {
     lock: &'a DocLock<S>,
     state: S,
     // Without a `&mut` among the types of the fields the clause of `state` gets no proof.
@@ -76,7 +76,7 @@ pub struct Held<'a, S: Standing> {
 }
 
 /// What one try of the flag comes to.
-pub enum Tried<'a, S: Standing> {
+pub enum Tried<'a, S: Guarded> {
     /// The seat has the state.
     Held(Held<'a, S>),
     /// Another seat had the lock.

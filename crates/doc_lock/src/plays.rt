@@ -1,6 +1,6 @@
 //! The rule of the lock's table, and what each kind of step tells the seat that takes it.
 
-use crate::standing::Standing;
+use crate::guarded::Guarded;
 use crate::view::View;
 use atomic_table::{Join, Play, Split, TableRule};
 use std::marker::PhantomData;
@@ -9,7 +9,7 @@ pub struct Rule<S> {
     state: PhantomData<S>,
 }
 
-impl<S: Standing> TableRule<Option<S>, View<S::Entry, S::Origin>, ()> for Rule<S> {
+impl<S: Guarded> TableRule<Option<S>, View<S::Entry, S::Origin>, ()> for Rule<S> {
     ghost use Rattle.doc_lock.specs.Kept.{Kept};
     ghost use Rattle.doc_lock.specs.Views.{beginning};
 
@@ -54,7 +54,7 @@ pub(crate) struct Try<S> {
     state: PhantomData<S>,
 }
 
-impl<S: Standing> Play<Option<S>, View<S::Entry, S::Origin>> for Try<S> {
+impl<S: Guarded> Play<Option<S>, View<S::Entry, S::Origin>> for Try<S> {
     ghost use Rattle.doc_lock.specs.Views.{tried};
 
     ghost then = { tried S.list S.author S.origin };
@@ -65,7 +65,7 @@ pub(crate) struct Publish<S> {
     state: PhantomData<S>,
 }
 
-impl<S: Standing> Play<Option<S>, View<S::Entry, S::Origin>> for Publish<S> {
+impl<S: Guarded> Play<Option<S>, View<S::Entry, S::Origin>> for Publish<S> {
     ghost use Rattle.doc_lock.specs.Views.{published};
 
     ghost then = { published S.list S.author };
@@ -76,7 +76,7 @@ pub(crate) struct Free<S> {
     state: PhantomData<S>,
 }
 
-impl<S: Standing> Play<Option<S>, View<S::Entry, S::Origin>> for Free<S> {
+impl<S: Guarded> Play<Option<S>, View<S::Entry, S::Origin>> for Free<S> {
     ghost use Rattle.doc_lock.specs.Views.{freed};
 
     ghost then = { freed S.origin };

@@ -1,7 +1,7 @@
 //! One thread at two seats.
 ghost use Rattle.std.specs.Prelude.{◌≡◌, [], ◌∷◌, false};
 
-use crate::{DocLock, Standing, Tried, lock_and_seats_cross_threads};
+use crate::{DocLock, Guarded, Tried, lock_and_seats_cross_threads};
 use std::test::Fail;
 
 /// Each mark is the number of the seat that made it.
@@ -11,7 +11,7 @@ struct Marks {
     marks: Vec<u32>,
 }
 
-impl Standing for Marks {
+impl Guarded for Marks {
     type Entry = u32;
 
     type Origin = u32;

@@ -81,7 +81,7 @@ abbrev pub post : {State : Type 0} → List (Work State) → Table State → Tab
 post [] t = t
 post (w ∷ ws) t = post ws (post_one (has w.lemma (blocks t.rows)) w t)
 
--- the delegated blocks whose closers with_progress at or before an id
+-- the delegated blocks whose closers stand at or before an id
 abbrev pub up_to_closers : {State : Type 0} → Check State → Document → ℕ → List (Work State)
 up_to_closers L d i = chosen (λ w. has w.closer.id (map (λ j. j.mark.id) (before i (judged L d)))) (works L d)
 

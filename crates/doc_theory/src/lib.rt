@@ -1,11 +1,11 @@
 //! A document of proof scripts, the table of its tasks and its histories, as definitions, and the theorem over them.
 //!
 //! No code runs here. specs/ has the document (entries with ids and told flags over the shape of line_theory), its
-//! edits, what is asked of the check of a sentence, the answer to each request in lines of the protocol, the table of
-//! tasks with the histories of commands, claims, results and losses, and what they render. The logic isn't here: a
-//! sentence's check is a record of a first state, of `one` and of a few laws, and a text is cut by that record too.
-//! A law is a public function of this crate with nothing in its body.
-//! The layer above cites `one_thread`, `late_results` and `joined_at_the_end`.
+//! edits, what is asked of the check of a sentence, the answer to each request in lines of the protocol, the table
+//! of tasks with the histories of commands, claims, results and losses, and what they render. The logic isn't here:
+//! a sentence's check is a record of a first state, of `one` and of a few laws, and a text is cut by that record
+//! too. A law is a public function of this crate with nothing in its body. The layer above cites `one_thread`,
+//! `late_results` and `joined_at_the_end`.
 #![tactic(auto)]
 
 mod line;

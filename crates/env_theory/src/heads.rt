@@ -8,9 +8,8 @@ ghost use Rattle.env_theory.specs.Normal.{argument};
 ghost use Rattle.env_theory.specs.Heads.{head_form, IsNoPredicate};
 ghost use Rattle.env_theory.specs.Machine.{formula_body};
 
-/// A defined predicate has the head form of its body, with the arguments put in once; any other formula is its own. No defined predicate is
-/// left at
-/// the head. Head forms go through substitution, and are well formed.
+/// A defined predicate has the head form of its body, with the arguments put in once; any other formula is its own.
+/// No defined predicate is left at the head. Head forms go through substitution, and are well formed.
 pub fn head_forms_are_of_bodies()
     ensures defined { (E : List Declaration) → Environment E → (p n : List ℕ) (ps : List Parameter) (b : Formula)
         → find E p ≡ Some (formula n ps b)

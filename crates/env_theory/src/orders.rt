@@ -6,9 +6,8 @@ ghost use Rattle.env_theory.specs.Normal.{expand, normal};
 ghost use Rattle.env_theory.specs.Heads.{expand_head, head_form};
 ghost use Rattle.env_theory.specs.Orders.{Member, InOrder, Lawful};
 
-/// In an environment in order head forms, unfolded formulas and normal forms are the same as before and well formed. What is put in before
-/// changes
-/// no normal form, whatever the formula.
+/// In an environment in order head forms, unfolded formulas and normal forms are the same as before and well
+/// formed. What is put in before changes no normal form, whatever the formula.
 pub fn environments_in_order_are_lawful()
     ensures lawful { (E : List Declaration) → InOrder E → Lawful E }
     ensures unfolded { (E : List Declaration) → InOrder E → (d : Declaration) → Member d E → (a : Formula)

@@ -6,9 +6,8 @@ ghost use Rattle.fol_theory.specs.Measures.{term_reach, reach, range, depth};
 ghost use Rattle.env_theory.specs.Declarations.{Declaration, find};
 ghost use Rattle.env_theory.specs.Typing.{HasSort, WellFormed, IsSort, AreSorts, Environment, Fits, Extends};
 
-/// Sorts stay when the environment grows, and under a substitution that gives each variable a term of its sort. A term has one sort, and
-/// that is
-/// declared.
+/// Sorts stay when the environment grows, and under a substitution that gives each variable a term of its sort. A
+/// term has one sort, and that is declared.
 pub fn sorts_are_kept()
     ensures grown_sort { (E F : List Declaration) → Extends E F → (V : List (List ℕ)) (t : Term) (s : List ℕ) → HasSort E V t s
         → HasSort F V t s }

@@ -5,3 +5,4 @@ pub mod Words
 pub mod Removals
 pub mod Flat
 pub mod Before
+mod Rows

@@ -3,7 +3,7 @@ ghost use Rattle.std.specs.Prelude.{◌≡◌, ℕ, [], ◌∷◌, ◌++◌, Mat
 ghost use Rattle.lock_trial.specs.Noting.{note};
 
 use base_core::NoMemory;
-use doc_lock::Standing;
+use doc_lock::Guarded;
 use std::alloc::Global;
 
 /// What one seat wrote.
@@ -21,7 +21,7 @@ pub struct Notes {
     pub notes: Vec<Note>,
 }
 
-impl Standing for Notes {
+impl Guarded for Notes {
     type Entry = Note;
 
     type Origin = u32;

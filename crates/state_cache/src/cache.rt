@@ -1,5 +1,5 @@
 //! The cache and its calls.
-ghost use Rattle.std.specs.Prelude.{◌≡◌, ◌<◌, [], OnOk, OnErr, IfOk, IfErr, option_copied};
+ghost use Rattle.std.specs.Prelude.{◌≡◌, ◌<◌, [], OnOk, OnErr, IfOk, IfErr, IsOk, IsSome, option_copied};
 ghost use Rattle.std.specs.Borrow.{sem};
 ghost use Rattle.state_cache.specs.States.{states, state_of, without, with_first, found_first, IsCache};
 
@@ -48,6 +48,7 @@ impl<T: Drop> StateCache<T> {
         ensures ok { OnOk result (self.new ≡ with_first id state self.old) }
         ensures err { OnErr result (self.new ≡ self.old) }
         ensures handed_back { IfErr result (λ s. s ≡ state) }
+        ensures succeeds { IsSome (state_of id self.old) → IsOk result }
         ensures valid { IsCache self.new }
     {
         match self.cache.put(id, state) {

@@ -19,30 +19,35 @@ pub record Table (T R : Type 0) : Type 0 where
   pub spare : ℕ
 
 module _ {R : Type 0} where
+  -- a row waits
   abbrev pub is_waiting : Standing R → Bool
   is_waiting Waiting = true
   is_waiting (Held seat) = false
   is_waiting (Done outcome) = false
 
+  -- a row is done
   abbrev pub is_done : Standing R → Bool
   is_done Waiting = false
   is_done (Held seat) = false
   is_done (Done outcome) = true
 
+  -- a row isn't done
   abbrev pub is_left : Standing R → Bool
   is_left standing = not (is_done standing)
 
+  -- a seat of this number holds the row
   abbrev pub is_held_by : ℕ → Standing R → Bool
   is_held_by seat Waiting = false
   is_held_by seat (Held other) = seat == other
   is_held_by seat (Done outcome) = false
 
-  -- the seat that holds it
+  -- the seat that holds a row, if one does
   abbrev pub holder : Standing R → Option ℕ
   holder Waiting = None
   holder (Held seat) = Some seat
   holder (Done outcome) = None
 
+  -- the result of a row, if it is done
   abbrev pub outcome_of : Standing R → Option R
   outcome_of Waiting = None
   outcome_of (Held seat) = None
@@ -73,10 +78,11 @@ module _ {T R : Type 0} where
   abbrev pub least_left : List (Row T R) → Option (ℕ × Option ℕ)
   least_left rows = option_map (λ r. (r.number, holder r.standing)) (find (λ r. is_left r.standing) rows)
 
+  -- every row is done
   abbrev pub all_done : List (Row T R) → Bool
   all_done rows = list_all (λ r. is_done r.standing) rows
 
-  -- the work of the row with a number
+  -- the work of the row with a number, if there is one
   abbrev pub work_of : ℕ → List (Row T R) → Option T
   work_of number rows = option_map (λ r. r.work) (find (λ r. number == r.number) rows)
 

@@ -10,16 +10,19 @@ use Rattle.task_board.specs.Places.{nothing}
 use Rattle.task_board.specs.Rows.{Row, is_waiting, is_left}
 
 module _ {T R : Type 0} where
-  -- the row in a slot, which has one where it has work
+  -- the row in a slot with this work
   abbrev pub row : Slot T R → T → Row T R
   row s w = record { number = s.number; block = s.block; work = w; standing = s.standing }
 
+  -- the row in a slot, if it has one
   abbrev pub row_in : Slot T R → Option (Row T R)
   row_in s = option_map (row s) s.work
 
+  -- the rows in the slots, in their order
   abbrev pub rows_of : List (Slot T R) → List (Row T R)
   rows_of slots = filter_map row_in slots
 
+  -- a slot has a row
   abbrev pub is_full : Slot T R → Bool
   is_full s = is_some s.work
 

@@ -1,6 +1,7 @@
 //! The board and its calls.
-ghost use Rattle.std.specs.Prelude.{◌≡◌, ◌+◌, ◌-◌, ◌^◌, ◌<◌, ◌≤◌, max, [], true, false, is_some, option_copied, if◌then◌else◌, IfOk, OnOk, OnErr, IsOk};
-ghost use Rattle.task_board.specs.Rows.{Table, with_rows, with_spare, has_row, is_held, least_waiting, least_left, all_done, work_of, result_of, claimed, moved, posted, without_block, IsTable};
+ghost use Rattle.std.specs.Prelude.{◌≡◌, ◌^◌, ◌<◌, ◌≤◌, max, [], false, option_copied, if◌then◌else◌, IfOk, OnOk, OnErr, IsOk};
+ghost use Rattle.task_board.specs.Rows.{has_row, is_held, least_waiting, least_left, all_done, work_of, result_of, IsTable};
+ghost use Rattle.task_board.specs.Rows.{with_rows, with_spare, claimed, moved, posted, without_block};
 
 use crate::slot::{
     Slot, close_up, held_place, place_of, room_in, row_count, stand_at, tournaments, vacate_at,

@@ -1,5 +1,6 @@
 //! Where rows are kept: slots in the order of their numbers.
-ghost use Rattle.std.specs.Prelude.{◌≡◌, ◌+◌, ◌^◌, ◌<◌, ◌≤◌, ◌==◌, true, false, find, option_copied, None, length, slice_get, slice_set, vec_len, vec_capacity, IfSome, IfNone, IfOk};
+ghost use Rattle.std.specs.Prelude.{◌≡◌, ◌+◌, ◌^◌, ◌<◌, ◌≤◌, ◌==◌, true, false, None, find, option_copied, IfSome, IfNone, IfOk};
+ghost use Rattle.std.specs.Prelude.{length, slice_get, slice_set, vec_len, vec_capacity};
 ghost use Rattle.std.specs.HashMap.{spare};
 ghost use Rattle.task_board.specs.Rows.{is_held, is_held_by, holder, outcome_of, is_waiting, is_left};
 ghost use Rattle.task_board.specs.Slots.{Rising, Parts, IsAt, Changes, Marks, full, rows_of, restood, emptied, key};
@@ -99,7 +100,7 @@ pub(crate) fn held_place<T, R>(slots: &[Slot<T, R>], seat: u32, number: u64) -> 
 /// Gives the slot at a place another standing.
 fn restand<T, R: Drop>(slots: &mut Vec<Slot<T, R>>, place: usize, standing: Standing<R>)
     requires { place < vec_len slots.old }
-    ensures items { IfSome (slice_get slots.old.items place) (λ slot. slots.new.items ≡ slice_set slots.old.items place (restood standing slot)) }
+    ensures items { IfSome (slice_get slots.old.items place) (λ s. slots.new.items ≡ slice_set slots.old.items place (restood standing s)) }
     ensures capacity { vec_capacity slots.new ≡ vec_capacity slots.old }
 {
     slots[place].standing = standing;
@@ -108,7 +109,7 @@ fn restand<T, R: Drop>(slots: &mut Vec<Slot<T, R>>, place: usize, standing: Stan
 /// Takes the row out of the slot at a place.
 fn vacate<T: Drop, R: Drop>(slots: &mut Vec<Slot<T, R>>, place: usize)
     requires { place < vec_len slots.old }
-    ensures items { IfSome (slice_get slots.old.items place) (λ slot. slots.new.items ≡ slice_set slots.old.items place (emptied slot)) }
+    ensures items { IfSome (slice_get slots.old.items place) (λ s. slots.new.items ≡ slice_set slots.old.items place (emptied s)) }
     ensures capacity { vec_capacity slots.new ≡ vec_capacity slots.old }
 {
     let slot = &mut slots[place];

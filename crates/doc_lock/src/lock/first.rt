@@ -5,14 +5,14 @@ ghost use Rattle.doc_lock.specs.Told.{Covers, Ends, IsBeside, IsOf, knows, seats
 
 use super::holder::put_home;
 use super::{DocLock, FLAG, STATE, Seat, SeatOf};
+use crate::guarded::Guarded;
 use crate::plays::{Cut, Glue, Take};
-use crate::standing::Standing;
 use atomic_table::Table;
 use std::alloc::Global;
 
 // Whoever makes the lock, by whom seat 0 comes.
 
-impl<S: Standing> DocLock<S> {
+impl<S: Guarded> DocLock<S> {
     /// A lock over a state with no entries, for so many seats in all, and its first seat. The state comes back
     /// where memory is wanting.
     pub fn new(alloc: Global, state: S, seats: u32) -> Result<(DocLock<S>, Seat<S>), S>
@@ -41,7 +41,7 @@ impl<S: Standing> DocLock<S> {
 
 // Seat 0: it splits off seats, and closes the lock. Any seat may take in another that isn't number 0.
 
-impl<S: Standing> DocLock<S> {
+impl<S: Guarded> DocLock<S> {
     /// A seat with the next number, which has seen as much. It takes no memory.
     pub fn split(&self, seat: &mut Seat<S>) -> Seat<S>
         requires lock { IsOf self.now seat.old }

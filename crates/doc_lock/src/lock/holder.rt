@@ -4,12 +4,12 @@ ghost use Rattle.doc_lock.specs.Lists.{Adds};
 ghost use Rattle.doc_lock.specs.Told.{IsBeside, IsWith, held_state, given_back, knows};
 
 use super::{FLAG, Held, LENGTH, PlaceOf, STATE, Seat, SharedOf};
+use crate::guarded::Guarded;
 use crate::plays::{Free, Publish};
-use crate::standing::Standing;
 
 // The state goes into the slot, its length is published, and the flag is freed. What a seat has seen by then is
 // read off the slot, so the state goes in first.
-pub(super) fn put_home<S: Standing>(shared: &SharedOf<S>, place: &mut PlaceOf<S>, state: S)
+pub(super) fn put_home<S: Guarded>(shared: &SharedOf<S>, place: &mut PlaceOf<S>, state: S)
     requires table { (place.old.table_id ≡ shared.now.table_id) × (shared.now.table_id.words ≡ 2) × (shared.now.table_id.slots ≡ 1) }
     requires holds { (place.old.me.0.live ≡ true) × (place.old.me.0.holds ≡ true) × (place.old.me.1 ≡ (0, None) ∷ []) }
     requires grown { Adds S.author place.old.me.0.number place.old.me.0.seen (S.list state) }
@@ -26,7 +26,7 @@ pub(super) fn put_home<S: Standing>(shared: &SharedOf<S>, place: &mut PlaceOf<S>
 
 // The holder, with the seat that holds: it gives the state back.
 
-impl<S: Standing> Held<'_, S> {
+impl<S: Guarded> Held<'_, S> {
     /// Gives the state back, and wakes those who wait for the lock or for another length. It takes no memory.
     /// The list may have grown by entries of this seat, and the origin is as it was. The seat has then seen the
     /// list as it is given back.

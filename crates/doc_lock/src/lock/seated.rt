@@ -3,8 +3,8 @@ ghost use Rattle.std.specs.Prelude.{◌≡◌, ℕ, ◌+◌, ◌<◌, ◌≢◌,
 ghost use Rattle.doc_lock.specs.Told.{MatchTried, IsOf, IsBeside, IsHeldOf, Gets, GetsAtLast, Misses, Rests, held_state, knows};
 
 use super::{DocLock, FLAG, Held, LENGTH, STATE, Seat, SeatOf, Tried};
+use crate::guarded::Guarded;
 use crate::plays::{Look, Try};
-use crate::standing::Standing;
 use std::marker::PhantomData;
 use std::sync::Wait;
 
@@ -21,7 +21,7 @@ impl<S, E, O> SeatOf<S, E, O> {
 
 // Any seat: it tries and holds where it holds nothing yet, and it rests.
 
-impl<S: Standing> DocLock<S> {
+impl<S: Guarded> DocLock<S> {
     /// Makes one try, never waits and takes no memory. `Busy` exactly where the try read a word other than 0;
     /// nothing is then told of the state.
     pub fn try_hold<'a>(&'a self, seat: &mut Seat<S>) -> Tried<'a, S>

@@ -8,6 +8,6 @@ join_seat-requires g c = (
   search rules,
   c.args.other.free c.requires.free.1,
   search rules,
-  joins g.S.Standing.list g.S.Standing.author g.S.Standing.origin _ _ _ _ c.args.seat.now.numbered.2 c.requires.free.0
+  joins g.S.Guarded.list g.S.Guarded.author g.S.Guarded.origin _ _ _ _ c.args.seat.now.numbered.2 c.requires.free.0
       c.args.other.numbered.2 c.requires.free.1 c.requires.other,
 )

@@ -7,13 +7,13 @@ use Rattle.doc_lock.proofs.Steps.{takes_empty}
 use Rattle.doc_lock.proofs.lock.DocLock.new.Goals as goal
 
 pub vacant-requires : goal.vacant-requires
-vacant-requires g c = opens g.S.Standing.list g.S.Standing.author g.S.Standing.origin
+vacant-requires g c = opens g.S.Guarded.list g.S.Guarded.author g.S.Guarded.origin
 
 pub store-requires : goal.store-requires
 store-requires g c = let me = c.in-Ok.ensures.4 in (
   search rules,
   search rules,
-  takes_empty g.S.Standing.list g.S.Standing.author g.S.Standing.origin _ _ _ (ap (λ m. m.0.live) me) (ap (λ m. m.0.number) me)
+  takes_empty g.S.Guarded.list g.S.Guarded.author g.S.Guarded.origin _ _ _ (ap (λ m. m.0.live) me) (ap (λ m. m.0.number) me)
       (ap (λ m. m.0.seen) me) (ap (λ m. m.0.holds) me) (ap (λ m. m.0.origin) me),
 )
 
@@ -25,7 +25,7 @@ returns g c = let me = c.in-Ok.ensures.4 in let taken = c.store.ensures.2 in
         refl,
         search rules,
         ap (λ m. m.0) c.put_home.ensures.home ∙ (ap (λ (v : View g.row.S-Entry.Denot g.row.S-Origin.Denot).
-            given_back g.S.Standing.list g.S.Standing.author g.S.Standing.origin v c.args.state) before
-            ∙ starts g.S.Standing.list g.S.Standing.author g.S.Standing.origin c.args.state c.requires.empty),
+            given_back g.S.Guarded.list g.S.Guarded.author g.S.Guarded.origin v c.args.state) before
+            ∙ starts g.S.Guarded.list g.S.Guarded.author g.S.Guarded.origin c.args.state c.requires.empty),
       );
     }

@@ -6,5 +6,5 @@ pub load-found-requires : goal.load-found-requires
 load-found-requires g c = (
   search rules,
   search rules,
-  looks g.S.Standing.list g.S.Standing.author g.S.Standing.origin _ _ _ c.loop.seat.numbered.2,
+  looks g.S.Guarded.list g.S.Guarded.author g.S.Guarded.origin _ _ _ c.loop.seat.numbered.2,
 )

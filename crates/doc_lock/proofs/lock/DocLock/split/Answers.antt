@@ -6,5 +6,5 @@ pub split_seat-place-requires : goal.split_seat-place-requires
 split_seat-place-requires g c = (
   search rules,
   search rules,
-  splits g.S.Standing.list g.S.Standing.author g.S.Standing.origin _ _ c.args.seat.now.numbered.2 c.requires.first.0 c.args.seat.now.begun,
+  splits g.S.Guarded.list g.S.Guarded.author g.S.Guarded.origin _ _ c.args.seat.now.numbered.2 c.requires.first.0 c.args.seat.now.begun,
 )

@@ -2,7 +2,7 @@
 ghost use Rattle.std.specs.Prelude.{◌≡◌, ℕ, List, length};
 
 /// A state with a list of entries, each by one author, and an origin.
-pub trait Standing {
+pub trait Guarded {
     /// One entry of the list.
     type Entry;
 

@@ -1,0 +1,4 @@
+pub mod Layered
+pub mod Looking
+pub mod Stacked
+pub mod Pushed
