@@ -14,7 +14,8 @@ use Rattle.base_core.specs.Lists.{Begins}
 use Rattle.session_run.specs.Items.{requests_in}
 use Rattle.session_run.specs.Answers.{Document, MayBe, answer, command_lines, last_lines}
 use Rattle.session_run.specs.Histories.{Standing, start, step, standing, Legal, LegalFrom, render, requests, outcomes}
-use Rattle.session_run.specs.Headline.{AllWhole, EndsClean, EndsInside, HasCompleteness, HasDoneCause, HasRead, HasReadFaultCause}
+use Rattle.session_run.specs.Headline.{AllWhole, Call, EndsClean, EndsInside, HasCompleteness, HasDoneCause, HasRead, HasReadFaultCause}
+use Rattle.session_run.specs.Headline.{IsSession}
 use Rattle.session_run.specs.Headline.{HasTooLongCause, HasTruncatedCause, HasWriteFaultCause, HasWritten, IsAnswered, IsClean}
 use Rattle.session_run.specs.Headline.{HasLegalHistory, IsOneThread, IsOrLost, IsQuit, IsStatus, IsTooLong, IsTruncated, any_short}
 use Rattle.session_run.specs.Headline.{has_short, is_short}
@@ -315,19 +316,28 @@ all_whole p (Close ∷ es) l e = all_whole (step p Close) es l.1 e
 
 -- ---- with Close at the end
 
+-- the call that these values tell
+abbrev pub called : Option (List ℕ) → Option (List ℕ) → ℕ → ℕ → Option (List ℕ) → Option (List ℕ) → ℕ → ℕ → ℕ → ℕ → Bool → List Entry
+    → Call
+called before now r s old new f g status taken at_end h = record {
+  left_before = before;
+  left_after = now;
+  read_faults_before = r;
+  read_faults_after = s;
+  written_before = old;
+  written_after = new;
+  write_faults_before = f;
+  write_faults_after = g;
+  status = status;
+  taken = taken;
+  at_end = at_end;
+  history = h;
+}
+
 pub record Told (before now : Option (List ℕ)) (r s : ℕ) (old new : Option (List ℕ)) (f g : ℕ) (status taken : ℕ) (at_end : Bool)
     (h : List Entry) : Type 0 where
-  pub legal : HasLegalHistory status taken h
-  pub read : HasRead before now status taken at_end h
-  pub written : HasWritten old new f g status h
-  pub one_thread : IsOneThread h
+  pub session : IsSession (called before now r s old new f g status taken at_end h)
   pub known : IsStatus status
-  pub done : HasDoneCause before status taken at_end h
-  pub read_fault : HasReadFaultCause r s status
-  pub write_fault : HasWriteFaultCause f g status
-  pub truncated : HasTruncatedCause before status taken at_end h
-  pub too_long : HasTooLongCause status taken at_end h
-  pub complete : HasCompleteness before r s f g status taken at_end h
 
 legal-closed : (status taken : ℕ) (h : List Entry) → Legal h → (standing h).closed ≡ false
     → HasLegalHistory status taken (h ++ Close ∷ [])
@@ -416,41 +426,44 @@ told {before} {now} {r} {s} {n} {at_end = e} {stop} {k} {o} served cause legal g
     let all_h : IsAnswered status → IsAll before n e h = λ a. all-closed before n e k (f.whole a) in
     let long_h : status ≡ TOO_LONG → IsTooLong n e h = λ d. long-closed n e k h same (f.long_only d) in
     record {
-      legal = legal-closed status n k legal going;
-      read = record {
-        taken_bytes = served.taken_bytes;
-        first = first-closed before n e k f.first;
-        whole = all_h;
-        nothing_left = served.nothing_left;
-        ended = λ d q. f.ended d (sym same ∙ q);
-        truncated_end = f.truncated_end;
-        not_ended = f.not_ended;
-        limit = served.limit;
-      };
-      written = record {
-        whole = λ w. rw (render-closed k) (written-all false o.failed _ _ _ refl
-            (clean-from status o.first_faults o.faults o.failed f.clean cause w) put.grew);
-        prefix = rw (render-closed k) (written-prefix o.failed _ _ _ put.grew);
-      };
-      one_thread = one_thread start h legal_h;
       known = f.known;
-      done = record {
-        only = λ d. done-closed before n e k h same (f.done_only d);
-        at_quit = λ q. f.at_quit (sym same ∙ q);
-        at_clean = mapped before _ (λ all. IsClean all n e h
-            → IsOrLost status DONE) (λ all g c. g (clean-closed all n e h k (sym same) c)) f.at_clean;
+      session = record {
+        legal = legal-closed status n k legal going;
+        read = record {
+          taken_bytes = served.taken_bytes;
+          first = first-closed before n e k f.first;
+          whole = all_h;
+          nothing_left = served.nothing_left;
+          ended = λ d q. f.ended d (sym same ∙ q);
+          truncated_end = f.truncated_end;
+          not_ended = f.not_ended;
+          limit = served.limit;
+        };
+        written = record {
+          whole = λ w. rw (render-closed k) (written-all false o.failed _ _ _ refl
+              (clean-from status o.first_faults o.faults o.failed f.clean cause w) put.grew);
+          prefix = rw (render-closed k) (written-prefix o.failed _ _ _ put.grew);
+        };
+        one_thread = one_thread start h legal_h;
+        known = inr f.known;
+        done = record {
+          only = λ d. done-closed before n e k h same (f.done_only d);
+          at_quit = λ q. f.at_quit (sym same ∙ q);
+          at_clean = mapped before _ (λ all. IsClean all n e h
+              → IsOrLost status DONE) (λ all g c. g (clean-closed all n e h k (sym same) c)) f.at_clean;
+        };
+        read_fault = record { only = f.read_fault; passed = f.reads };
+        write_fault = record { only = f.write_fault; passed = λ a. put.passed (f.clean a) };
+        truncated = record {
+          only = λ d. mapped before _ (λ all. IsTruncated all n e h) (λ all t. truncated-closed all n e k h same t) (f.truncated_only d);
+          always = mapped before _ (λ all. IsTruncated all n e h
+              → IsOrLost status TRUNCATED) (λ all g t. g (truncated-closed all n e h k (sym same) t)) f.truncated_always;
+        };
+        too_long = record { only = long_h; always = λ l. f.long_always (long-closed n e h k (sym same) l) };
+        complete = completed before r s o.first_faults o.faults status n e h f.known f.read_fault f.write_fault all_h
+            (all_whole start h legal_h)
+            (λ d. which-closed e k h same (f.done_which d)) f.truncated_end long_h;
       };
-      read_fault = record { only = f.read_fault; passed = f.reads };
-      write_fault = record { only = f.write_fault; passed = λ a. put.passed (f.clean a) };
-      truncated = record {
-        only = λ d. mapped before _ (λ all. IsTruncated all n e h) (λ all t. truncated-closed all n e k h same t) (f.truncated_only d);
-        always = mapped before _ (λ all. IsTruncated all n e h
-            → IsOrLost status TRUNCATED) (λ all g t. g (truncated-closed all n e h k (sym same) t)) f.truncated_always;
-      };
-      too_long = record { only = long_h; always = λ l. f.long_always (long-closed n e h k (sym same) l) };
-      complete = completed before r s o.first_faults o.faults status n e h f.known f.read_fault f.write_fault all_h
-          (all_whole start h legal_h)
-          (λ d. which-closed e k h same (f.done_which d)) f.truncated_end long_h;
     }
 
 -- what the code holds at its end: the sink's bytes and its count, as `new` got it and now, the status, and the closed history

@@ -1,4 +1,5 @@
--- THE THEOREM, clause by clause. Of one call of `serve_alone` or `sertop_main`:
+-- THE THEOREM is `IsSession`, the last word of this page, of one call of `serve_alone` or `sertop_main`; a word for each of its clauses
+-- stands before it.
 --
 --   B is the `taken` bytes that the call took from the source, H its `history`, and W what it wrote to the sink. Where the
 --   source tells its bytes, B are the first `taken` of those that it had left; where the sink tells its bytes, W is what it
@@ -187,3 +188,37 @@ abbrev pub HasCompleteness : Option (List ℕ) → ℕ → ℕ → ℕ → ℕ �
 HasCompleteness before old_reads new_reads old_writes new_writes status taken at_end h =
     Stood old_reads new_reads → Stood old_writes new_writes → (status ≡ BAD_WORDS)
     ⊎ ((status ≡ NO_MEMORY) ⊎ IsComplete before status taken at_end h)
+
+-- ---- the theorem
+
+-- A call, of which the theorem speaks: the bytes that the source has left and those that were written to the sink, where they tell them,
+-- and their counts of faults, each at the call and at its return; the status; how many bytes were taken, and whether the end was met; and
+-- the history.
+pub record Call : Type 0 where
+  pub left_before : Option (List ℕ)
+  pub left_after : Option (List ℕ)
+  pub read_faults_before : ℕ
+  pub read_faults_after : ℕ
+  pub written_before : Option (List ℕ)
+  pub written_after : Option (List ℕ)
+  pub write_faults_before : ℕ
+  pub write_faults_after : ℕ
+  pub status : ℕ
+  pub taken : ℕ
+  pub at_end : Bool
+  pub history : List Entry
+
+-- THE THEOREM of a call
+pub record IsSession (c : Call) : Type 0 where
+  pub legal : HasLegalHistory c.status c.taken c.history
+  pub read : HasRead c.left_before c.left_after c.status c.taken c.at_end c.history
+  pub written : HasWritten c.written_before c.written_after c.write_faults_before c.write_faults_after c.status c.history
+  pub one_thread : IsOneThread c.history
+  pub known : (c.status ≡ BAD_WORDS) ⊎ IsStatus c.status
+  pub done : HasDoneCause c.left_before c.status c.taken c.at_end c.history
+  pub read_fault : HasReadFaultCause c.read_faults_before c.read_faults_after c.status
+  pub write_fault : HasWriteFaultCause c.write_faults_before c.write_faults_after c.status
+  pub truncated : HasTruncatedCause c.left_before c.status c.taken c.at_end c.history
+  pub too_long : HasTooLongCause c.status c.taken c.at_end c.history
+  pub complete : HasCompleteness c.left_before c.read_faults_before c.read_faults_after c.write_faults_before c.write_faults_after
+      c.status c.taken c.at_end c.history

@@ -7,8 +7,7 @@ ghost use Rattle.sexp_core.specs.Readers.{item_meaning};
 ghost use Rattle.serapi_cmd.specs.Requests.{request_of};
 ghost use Rattle.session_run.specs.Histories.{standing};
 ghost use Rattle.session_run.specs.Serving.{Continues, Finishes, IsIdle, Passes, Served, Takes, status_of as status_after, stop_after};
-ghost use Rattle.session_run.specs.Headline.{HasCompleteness, HasDoneCause, HasRead, HasReadFaultCause, HasTooLongCause};
-ghost use Rattle.session_run.specs.Headline.{HasTruncatedCause, HasWriteFaultCause, HasWritten, HasLegalHistory, IsOneThread, IsStatus};
+ghost use Rattle.session_run.specs.Headline.{IsSession, IsStatus};
 
 use crate::history::History;
 use crate::live::Live;
@@ -88,30 +87,26 @@ struct Service {
 /// again. Where memory is wanting to make the session, the history is empty; in every other case it ends with
 /// Close.
 pub fn serve_alone<S: Source, K: Sink>(alloc: Global, source: &mut S, sink: K) -> Ended<K>
-    // The history is legal and closed, and an empty one means that nothing was read or written.
-    ensures legal { HasLegalHistory result.status result.taken result.history.items }
+    // What the call did is a session: its history, what it read and wrote, and the cause of its status.
+    ensures session { IsSession (record {
+      left_before = S.left source.old;
+      left_after = S.left source.new;
+      read_faults_before = S.faults source.old;
+      read_faults_after = S.faults source.new;
+      written_before = K.written sink;
+      written_after = K.written result.sink;
+      write_faults_before = K.faults sink;
+      write_faults_after = K.faults result.sink;
+      status = result.status;
+      taken = result.taken;
+      at_end = result.at_end;
+      history = result.history.items;
+    }) }
+    ensures known { IsStatus result.status }
+
+    // An empty history means that nothing was read or written.
     ensures untouched_source { result.history.items ≡ [] → source.new ≡ source.old }
     ensures untouched_sink { result.history.items ≡ [] → result.sink ≡ sink }
-
-    // What was read, what was written, and that one thread would have written the same.
-    ensures read { HasRead (S.left source.old) (S.left source.new)
-        result.status result.taken result.at_end result.history.items }
-    ensures written { HasWritten (K.written sink) (K.written result.sink)
-        (K.faults sink) (K.faults result.sink) result.status result.history.items }
-    ensures one_thread { IsOneThread result.history.items }
-
-    // The causes of each status.
-    ensures known { IsStatus result.status }
-    ensures done { HasDoneCause (S.left source.old) result.status result.taken result.at_end result.history.items }
-    ensures read_fault { HasReadFaultCause (S.faults source.old) (S.faults source.new) result.status }
-    ensures write_fault { HasWriteFaultCause (K.faults sink) (K.faults result.sink) result.status }
-    ensures truncated { HasTruncatedCause (S.left source.old) result.status result.taken result.at_end result.history.items }
-    ensures too_long { HasTooLongCause result.status result.taken result.at_end result.history.items }
-
-    // Without faults and want of memory everything is answered.
-    ensures complete { HasCompleteness (S.left source.old)
-        (S.faults source.old) (S.faults source.new) (K.faults sink) (K.faults result.sink)
-        result.status result.taken result.at_end result.history.items }
 {
     let mut live = match Live::new(alloc, sink) {
         Ok(live) => live,

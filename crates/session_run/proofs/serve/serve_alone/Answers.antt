@@ -16,17 +16,8 @@ returns g c =
       entries = session.ensures.entries;
     }) in
     record {
-      legal = t.legal;
-      read = t.read;
-      written = t.written;
-      one_thread = t.one_thread;
+      session = t.session;
+      known = t.known;
       untouched_source = λ e. absurd (closed-some service.new.live.entries (sym session.ensures.entries ∙ e));
       untouched_sink = λ e. absurd (closed-some service.new.live.entries (sym session.ensures.entries ∙ e));
-      known = t.known;
-      done = t.done;
-      read_fault = t.read_fault;
-      write_fault = t.write_fault;
-      truncated = t.truncated;
-      too_long = t.too_long;
-      complete = t.complete;
     }
