@@ -33,9 +33,8 @@ pub fn sertop_main<S: Source, K: Sink>(
       history = result.history.items;
     }) }
 
-    // An empty history means that nothing was read or written.
+    // Where the history is empty, the source is the very one that was handed in.
     ensures untouched_source { result.history.items ≡ [] → source.new ≡ source.old }
-    ensures untouched_sink { result.history.items ≡ [] → result.sink ≡ sink }
 {
     if !words.is_empty() {
         return Ended {
