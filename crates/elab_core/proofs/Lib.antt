@@ -6,3 +6,4 @@ pub mod Building
 pub mod Within
 pub mod Whole
 pub mod Typed
+pub mod Sentences

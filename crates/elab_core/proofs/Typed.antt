@@ -25,7 +25,7 @@ use Rattle.elab_core.specs.declared.fault.ElabFault.TheVariants.{
 }
 use Rattle.elab_core.specs.Faults.{Faulty}
 use Rattle.elab_core.specs.Answers.{Types, formula_size}
-use Rattle.elab_core.proofs.Within.{IsSized, within_fault, within_large, within_built, within_first}
+use Rattle.elab_core.proofs.Within.{IsSized, within_fault, within_large, within_built}
 use Rattle.elab_core.specs.Checked.{sort_of, fits_formula}
 use Rattle.elab_core.specs.Built.{term_built, formula_built}
 use Rattle.elab_core.proofs.Forgotten.{sort_alone, sort_forgotten, formula_forgotten}
@@ -89,14 +89,7 @@ term_fault NotOfForm E c a h = h
 term_fault (TooLarge n m) E c a h = h
 term_fault NoMemory E c a h = tt
 
--- ---- a statement
-
-pub stated_first : (e : ElabFault) (r : Result (List ℕ) Fault) (f : List ℕ → Result Formula Fault) → Faulty e r
-    → Types (Err e) (and_then r f)
-stated_first e r f h = within_first meaning formula_size e r f h
 
 pub ruleset terms = (types_term, term_fault)
-
-pub ruleset handing = (stated_first)
 
 pub ruleset typing = (types_fault, types_large, types_built)

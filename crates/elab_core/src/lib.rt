@@ -10,8 +10,10 @@ mod build;
 mod check;
 mod fault;
 mod scope;
+mod sentence;
 mod size;
 mod typing;
 
 pub use fault::ElabFault;
+pub use sentence::statement;
 pub use typing::{formula, term};
