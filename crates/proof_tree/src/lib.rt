@@ -8,9 +8,9 @@
 
 mod chain;
 mod rule;
-mod tree;
 #[cfg(test)]
 mod tests;
+mod tree;
 
 pub use rule::Rule;
 pub use tree::Tree;
