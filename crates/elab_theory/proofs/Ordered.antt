@@ -15,7 +15,6 @@ use Rattle.std.proofs.Common.{
   subst,
   ◌∙◌,
   ◌||◌,
-  if◌then◌else◌,
   Option,
   Some,
   None,

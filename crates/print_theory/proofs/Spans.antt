@@ -2,7 +2,6 @@
 use Rattle.std.proofs.Common.{
   ◌≡◌,
   ℕ,
-  zero,
   suc,
   List,
   [],
@@ -26,7 +25,6 @@ use Rattle.std.proofs.Common.{
 }
 use Rattle.vern_lex.specs.declared.span.Span.{Span}
 use Rattle.vern_grammar.specs.Trees.{
-  Operator,
   implication,
   equivalence,
   disjunction,

@@ -5,7 +5,6 @@ use Rattle.std.proofs.Common.{
   zero,
   suc,
   ◌<◌,
-  ◌≤◌,
   ◌||◌,
   List,
   [],
@@ -27,15 +26,12 @@ use Rattle.std.proofs.Common.{
   sym,
   ap,
   ◌∙◌,
-  subst,
   arith,
 }
-use Rattle.std.specs.Prelude.{nat_eq}
-use Rattle.std.specs.List.{All}
 use Rattle.std.proofs.lemmas.Bool.{false≢true}
 use Rattle.std.proofs.lemmas.Bool.Decides.{nat_tests}
 use Rattle.vern_lex.specs.Tokens.{tokens_of}
-use Rattle.vern_grammar.specs.Trees.{Operator, implication, disjunction, conjunction, Expression, Expressions}
+use Rattle.vern_grammar.specs.Trees.{Expression}
 use Rattle.vern_grammar.specs.Trees as made
 use Rattle.vern_grammar.specs.Kinds.{lexemes}
 use Rattle.vern_grammar.specs.Grammar.{group}
@@ -69,11 +65,8 @@ use Rattle.elab_theory.specs.Locals.{
   variable,
   hypothesis,
   sorts_in,
-  Known,
   bound,
   assumed,
-  declared,
-  unknown,
   known,
   declared_or_not,
   farther,
@@ -91,7 +84,6 @@ use Rattle.elab_theory.specs.Expressions.{
   equation_of,
   quantifier,
   under_names,
-  under_groups,
   over_groups,
   formula_of,
 }
@@ -106,7 +98,7 @@ use Rattle.print_theory.specs.Typed.{variables_in, local_names, AreSeen, IsPlace
 use Rattle.print_theory.proofs.Picks.{same_name, other_name, or_left, not_in_first, picked_unused}
 use Rattle.print_theory.proofs.Apart.{found, picked_free, formula_apart_more}
 use Rattle.print_theory.proofs.Laws.{formula_reads, term_reads}
-use Rattle.print_theory.proofs.Spans.{value, same_ok, term_spanless, formula_spanless}
+use Rattle.print_theory.proofs.Spans.{same_ok, term_spanless, formula_spanless}
 
 -- ---- what names stand for
 

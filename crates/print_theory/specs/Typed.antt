@@ -1,12 +1,9 @@
 -- What the tree of a printed text is typed as, over an environment and the locals that have the names of the variables.
-use Rattle.std.specs.Prelude.{◌≡◌, ◌≤◌, ℕ, List, [], ◌∷◌, false, Option, Some, None, Ok}
-use Rattle.std.specs.List.{All}
+use Rattle.std.specs.Prelude.{◌≡◌, ℕ, List, [], ◌∷◌, false, Some, Ok}
 use Rattle.vern_lex.specs.Tokens.{tokens_of}
 use Rattle.vern_grammar.specs.Trees.{Expression}
 use Rattle.vern_grammar.specs.Kinds.{lexemes}
-use Rattle.vern_grammar.specs.Levels.{limit}
 use Rattle.vern_grammar.specs.Grammar.{IsExpression}
-use Rattle.vern_sentence.specs.Names.{IsFreeName}
 use Rattle.fol_theory.specs.Syntax.{Term, Formula}
 use Rattle.fol_theory.specs.Printing.{Alike}
 use Rattle.env_theory.specs.Declarations.{Declaration, find}
