@@ -89,7 +89,6 @@ term_fault NotOfForm E c a h = h
 term_fault (TooLarge n m) E c a h = h
 term_fault NoMemory E c a h = tt
 
-
 pub ruleset terms = (types_term, term_fault)
 
 pub ruleset typing = (types_fault, types_large, types_built)
