@@ -1,5 +1,5 @@
 -- Limits of numbers that stop.
-use Rattle.std.proofs.Common.{◌≡◌, ℕ, ◌<◌, ◌≤◌, ◌^◌, min, ◌⊎◌, inl, inr, arith}
+use Rattle.std.proofs.Common.{◌≡◌, ℕ, ◌<◌, ◌≤◌, ◌^◌, min, inl, inr, arith}
 use Rattle.conv_core.specs.Outcomes.{IsWithin, Passes}
 
 pub nodes_pass : (a n h : ℕ) → a ≡ min n (2 ^ 32) → 65536 < a → Passes n h
