@@ -25,7 +25,8 @@ formula_summary-requires c =
 
 pub returns-in-DefPred : goal.returns-in-DefPred
 returns-in-DefPred c = if_ok c.formula_summary.result
-    (λ y h. subst (λ d. SummaryOf (declarations c.args.env.now) (declaration d) y) (sym c.in-DefPred.is) (h.0, h.1, tt)) c.formula_summary.ensures
+    (λ y h. subst (λ d. SummaryOf (declarations c.args.env.now) (declaration d) y) (sym c.in-DefPred.is) (h.0, h.1, tt))
+    c.formula_summary.ensures
 
 pub returns-in_default : goal.returns-in_default
 returns-in_default c = other_summary (declarations c.args.env.now) c.args.decl.now _ (λ n ps r b e. c.in_default.not-DefFun n ps r b e)
