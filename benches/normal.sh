@@ -19,5 +19,5 @@ printf '%s\n' 'base_core: thiserror' 'fol_theory:' 'env_theory: fol_theory' 'ter
 if [ -f "$top/HANDLES" ]; then cp "$top/HANDLES" "$work/"; fi
 
 cp "$top/benches/normal/main.txt" "$work/crates/normal_times/src/main.rt"
-(cd "$work/crates/normal_times" && rt try >"$work/times" 2>"$work/log") || { cat "$work/log" >&2; exit 1; }
+(cd "$work/crates/normal_times" && rt try --seconds 900 >"$work/times" 2>"$work/log") || { cat "$work/log" >&2; exit 1; }
 cat "$work/times"
