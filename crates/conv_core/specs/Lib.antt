@@ -1,0 +1,5 @@
+pub mod Frames
+pub mod Heads
+pub mod Formulas
+pub mod Outcomes
+pub mod Pairs

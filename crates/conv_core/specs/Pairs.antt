@@ -1,0 +1,51 @@
+-- What is still to be compared, and what comparing two heads leaves.
+use Rattle.std.specs.Prelude.{◌≡◌, ◌↔◌, ℕ, ◌<◌, Bool, true, false, List, [], ◌∷◌, ◌++◌, length, map}
+use Rattle.term_core.specs.declared.term.Term.{Term}
+use Rattle.term_core.specs.Term.{meaning}
+use Rattle.env_theory.specs.Declarations.{Declaration}
+use Rattle.env_theory.specs.Compare as theory
+use Rattle.conv_core.specs.declared.frame.Frame.{Frame}
+use Rattle.conv_core.specs.declared.compare.Pair.{Pair}
+use Rattle.conv_core.specs.Frames.{scope_of}
+use Rattle.conv_core.specs.Heads.{Standing}
+
+-- the pair of the theory that a pair stands for
+abbrev pub pair_of : List Frame → Pair → theory.Pair
+pair_of fs p = theory.both_terms (scope_of fs p.first_scope) p.first_by (meaning p.first.now) (scope_of fs p.second_scope) p.second_by
+    (meaning p.second.now)
+
+-- both terms may be read
+abbrev pub StandingPair : List Declaration → List Frame → Pair → Type 0
+StandingPair E fs p = Standing E fs p.first_scope p.first_by (meaning p.first.now)
+    × Standing E fs p.second_scope p.second_by (meaning p.second.now)
+
+-- the same of each pair
+abbrev pub StandingPairs : List Declaration → List Frame → List Pair → Type 0
+StandingPairs E fs [] = Unit {0}
+StandingPairs E fs (p ∷ ps) = StandingPair E fs p × StandingPairs E fs ps
+
+-- true: the pair agrees exactly where what was left does, which has fewer steps; false: it doesn't agree
+abbrev pub Split : List Declaration → theory.Pair → List Frame → List Pair → List Pair → Bool → Type 0
+Split E p gs old new true = (left : List Pair) × (new ≡ old ++ left) × StandingPairs E gs left
+    × (theory.AllAgree E (map (pair_of gs) left) ↔ theory.Agree E p)
+    × (theory.pairs_left E (map (pair_of gs) left) < theory.pair_left E p)
+Split E p gs old new false = theory.Agree E p → ⊥
+
+-- a pair of these two terms
+abbrev pub IsPair : ℕ → ℕ → Term → ℕ → ℕ → Term → Pair → Type 0
+IsPair c m t d n u p = (p.first_scope ≡ c) × (p.first_by ≡ m) × (p.first.now ≡ t) × (p.second_scope ≡ d) × (p.second_by ≡ n)
+    × (p.second.now ≡ u)
+
+-- as many pairs as terms on each side, each of the two that stand there
+abbrev pub Aligned : ℕ → ℕ → List Term → ℕ → ℕ → List Term → List Pair → Type 0
+Aligned c m [] d n [] [] = Unit {0}
+Aligned c m [] d n [] (p ∷ ps) = ⊥
+Aligned c m [] d n (u ∷ us) ps = ⊥
+Aligned c m (t ∷ ts) d n [] ps = ⊥
+Aligned c m (t ∷ ts) d n (u ∷ us) [] = ⊥
+Aligned c m (t ∷ ts) d n (u ∷ us) (p ∷ ps) = IsPair c m t d n u p × Aligned c m ts d n us ps
+
+-- true: pairs of the arguments, one by one, are left on the stack; false: they are not as many
+abbrev pub Pushed : ℕ → ℕ → List Term → ℕ → ℕ → List Term → List Pair → List Pair → Bool → Type 0
+Pushed c m ts d n us old new true = (left : List Pair) × (new ≡ old ++ left) × Aligned c m ts d n us left
+Pushed c m ts d n us old new false = length ts ≡ length us → ⊥
