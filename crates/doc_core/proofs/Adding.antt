@@ -1,21 +1,22 @@
 -- Pieces that are added one after the other.
-use Rattle.std.proofs.Common.{◌≡◌, ◌≤◌, ℕ, suc, ◌+◌, List, [], ◌∷◌, ◌++◌, map, drop, length, take, Option, Some, None, Result, Ok, Err}
+use Rattle.std.proofs.Common.{◌≡◌, ◌≤◌, ℕ, suc, ◌+◌, List, [], ◌∷◌, ◌++◌, map, drop, length, take, Option, Some, None, Ok, Err}
 use Rattle.std.proofs.Common.{refl, sym, ap, ◌∙◌, subst, append_assoc, append-nil, length-append, arith}
-use Rattle.std.proofs.Common.{◌<◌, get_or, true, false, if◌then◌else◌}
+use Rattle.std.proofs.Common.{◌<◌, get_or}
 use Rattle.std.proofs.Math.Seq.{drop-cons, take-append_seam}
+use Rattle.std.proofs.lemmas.List.{drop_all}
 use Rattle.vern_lex.specs.declared.span.Span.{Span}
+use Rattle.vern_lex.specs.declared.sentences.CutFault.{CutFault}
 use Rattle.base_core.specs.declared.no_memory.NoMemory.{NoMemory}
 use Rattle.serapi_ans.specs.declared.line.Line.{Line}
 use Rattle.serapi_ans.specs.declared.line.Line.TheVariants.{Added}
 use Rattle.serapi_ans.specs.declared.line.Exn.{Exn}
-use Rattle.serapi_ans.specs.declared.line.Exn.TheVariants as exn
-use Rattle.doc_theory.specs.Documents.{Document, Kind, Sentence, begin, close, inner, plain}
-use Rattle.doc_theory.specs.Editing.{Tried, refused, added, attempt}
-use Rattle.doc_theory.specs.Checks.{Piece, piece, unread}
+use Rattle.doc_theory.specs.Documents.{Document}
+use Rattle.doc_theory.specs.Editing.{Tried, refused, added}
+use Rattle.doc_theory.specs.Checks.{Piece}
 use Rattle.doc_theory.specs.Answers.{Ran, add_step, put_line, stopped}
-use Rattle.doc_core.specs.Pieces.{begin_of, end_of, piece_of}
-use Rattle.doc_core.specs.Answers.{is_plain, tried, add_all}
-use Rattle.doc_core.specs.Kept.{Adds, AddsOne, ran}
+use Rattle.doc_core.specs.Pieces.{begin_of, end_of, piece_of, unread_from}
+use Rattle.doc_core.specs.Answers.{tried, add_all}
+use Rattle.doc_core.specs.Kept.{Adds, AddsOne, ran, refusal_of}
 
 -- lines before those of a run
 abbrev put_lines : List Line → Ran → Ran
@@ -80,7 +81,7 @@ one : (tag : List ℕ) (done : List Piece) (c : Piece) (cs : List Piece) (d e : 
 one tag done c cs d e going same = joined tag done (c ∷ cs) d going
     ∙ ap (λ z. put_lines (add_all tag done d).lines (add_all tag (c ∷ cs) z)) (sym same)
 
-pub begun_added : {tag : List ℕ} {all : List Piece} {d : Document} {ls : List Line} {c : Piece} {rest : List Piece} {e f : Document}
+begun_added : {tag : List ℕ} {all : List Piece} {d : Document} {ls : List Line} {c : Piece} {rest : List Piece} {e f : Document}
     {ms ns : List Line} {i : ℕ} {t : Option ℕ} → Begun tag all d ls (c ∷ rest) e ms → tried e c ≡ added f i t
     → ns ≡ ms ++ Added tag i (begin_of c) (end_of c) t ∷ [] → Begun tag all d ls rest f ns
 begun_added {tag} {all} {d} {ls} {c} {rest} {e} {f} {ms} {ns} {i} {t} b h lines =
@@ -99,27 +100,33 @@ begun_added {tag} {all} {d} {ls} {c} {rest} {e} {f} {ms} {ns} {i} {t} b h lines 
 
 -- ---- how it ends
 
-pub adds_refused : {tag : List ℕ} {all : List Piece} {d : Document} {ls : List Line} {c : Piece} {rest : List Piece} {e : Document}
+adds_refused : {tag : List ℕ} {all : List Piece} {d : Document} {ls : List Line} {c : Piece} {rest : List Piece} {e : Document}
     {ms : List Line} {x : Exn} → Begun tag all d ls (c ∷ rest) e ms → tried e c ≡ refused x → Adds (Ok (Some x)) tag all d ls e ms
 adds_refused {tag} {all} {d} {ls} {c} {rest} {e} {ms} {x} b h =
     let run : add_all tag (b.done ++ c ∷ rest) d ≡ ran e ((add_all tag b.done d).lines ++ []) (Some x) =
     one tag b.done c rest d e b.going b.document
-    ∙ ap (λ r. put_lines (add_all tag b.done d).lines (add_step tag (begin_of c) (end_of c) e r (add_all tag rest))) h in
-    ((add_all tag b.done d).lines, b.lines, ap (λ z. add_all tag z d) b.split ∙ run
-    ∙ ap (λ z. ran e z (Some x)) (append-nil (add_all tag b.done d).lines))
+    ∙ ap (λ r. put_lines (add_all tag b.done d).lines (add_step tag (begin_of c) (end_of c) e r (add_all tag rest))) h in (
+      (add_all tag b.done d).lines,
+      b.lines,
+      ap (λ z. add_all tag z d) b.split ∙ run
+          ∙ ap (λ z. ran e z (Some x)) (append-nil (add_all tag b.done d).lines),
+    )
 
-pub adds_all : {tag : List ℕ} {all : List Piece} {d : Document} {ls : List Line} {e : Document} {ms : List Line}
+adds_all : {tag : List ℕ} {all : List Piece} {d : Document} {ls : List Line} {e : Document} {ms : List Line}
     → Begun tag all d ls [] e ms → Adds (Ok None) tag all d ls e ms
 adds_all {tag} {all} {d} {ls} {e} {ms} b =
     let run : add_all tag (b.done ++ []) d ≡ ran e ((add_all tag b.done d).lines ++ []) None =
-    joined tag b.done [] d b.going ∙ ap (λ z. put_lines (add_all tag b.done d).lines (stopped z None)) (sym b.document) in
-    ((add_all tag b.done d).lines, b.lines, ap (λ z. add_all tag z d) b.split ∙ run
-    ∙ ap (λ z. ran e z None) (append-nil (add_all tag b.done d).lines))
+    joined tag b.done [] d b.going ∙ ap (λ z. put_lines (add_all tag b.done d).lines (stopped z None)) (sym b.document) in (
+      (add_all tag b.done d).lines,
+      b.lines,
+      ap (λ z. add_all tag z d) b.split ∙ run
+          ∙ ap (λ z. ran e z None) (append-nil (add_all tag b.done d).lines),
+    )
 
 ran_as : (r : Ran) (e : Document) → r.stop ≡ None → e ≡ r.document → r ≡ ran e r.lines None
 ran_as r e stop same = ap (λ z. ran r.document r.lines z) stop ∙ ap (λ z. ran z r.lines None) (sym same)
 
-pub adds_short : {tag : List ℕ} {all : List Piece} {d : Document} {ls : List Line} {rest : List Piece} {e : Document} {ms : List Line}
+adds_short : {tag : List ℕ} {all : List Piece} {d : Document} {ls : List Line} {rest : List Piece} {e : Document} {ms : List Line}
     {short : NoMemory} → Begun tag all d ls rest e ms → Adds (Err short) tag all d ls e ms
 adds_short {tag} {all} {d} {ls} {rest} {e} {ms} b =
     let r : Ran = add_all tag b.done d in
@@ -132,41 +139,53 @@ adds_short {tag} {all} {d} {ls} {rest} {e} {ms} b =
     ∙ length-append r.lines (add_all tag rest r.document).lines in omega (arith, whole) in
     (r.lines, b.lines, ap (λ z. add_all tag z d) front ∙ ran_as r e b.going b.document, within)
 
--- ---- one piece
+-- what isn't added leaves all as it is
+begun_kept : {tag : List ℕ} {all : List Piece} {d : Document} {ls : List Line} {rest : List Piece} {e f : Document} {ms ns : List Line}
+    → Begun tag all d ls rest e ms → f ≡ e → ns ≡ ms → Begun tag all d ls rest f ns
+begun_kept b same as_before = record {
+  done = b.done;
+  split = b.split;
+  going = b.going;
+  document = same ∙ b.document;
+  lines = as_before ∙ b.lines;
+}
 
-pub one_unread : (tag : List ℕ) (d : Document) (c : Piece) (ls : List Line) (p : ℕ) → c ≡ unread p
-    → AddsOne (Ok (Some (exn.Parse p))) tag d c ls d ls
-one_unread tag d c ls p e = (ap (tried d) e, refl, refl)
+-- what one piece more comes to: it is added, it is refused, or memory was wanting
+pub one_more : {tag : List ℕ} {all : List Piece} {d : Document} {ls : List Line} {c : Piece} {rest : List Piece} {e f : Document}
+    {ms ns : List Line} → Begun tag all d ls (c ∷ rest) e ms → AddsOne (Ok None) tag e c ms f ns → Begun tag all d ls rest f ns
+one_more b (i, t, h, lines) = begun_added b h lines
 
-pub plain_kind : (k : Kind) → is_plain k ≡ true → k ≡ plain
-plain_kind plain h = refl
-plain_kind begin h = cc
-plain_kind inner h = cc
-plain_kind (close k) h = cc
+pub one_refused : {tag : List ℕ} {all : List Piece} {d : Document} {ls : List Line} {c : Piece} {rest : List Piece} {e f : Document}
+    {ms ns : List Line} {x : Exn} → Begun tag all d ls (c ∷ rest) e ms → AddsOne (Ok (Some x)) tag e c ms f ns
+    → Adds (Ok (Some x)) tag all d ls f ns
+one_refused {c = c} b (h, same, as_before) = adds_refused (begun_kept b same as_before) (ap (λ z. tried z c) same ∙ h)
 
-pub one_other : (tag : List ℕ) (d : Document) (c : Piece) (ls : List Line) (p q : ℕ) (x : Sentence) → c ≡ piece p q x
-    → is_plain x.kind ≡ false → AddsOne (Ok (Some exn.Unsupported)) tag d c ls d ls
-one_other tag d c ls p q x e h = (ap (tried d) e ∙ ap (λ b. if b then attempt d p x else refused exn.Unsupported) h, refl, refl)
+pub one_short : {tag : List ℕ} {all : List Piece} {d : Document} {ls : List Line} {rest : List Piece} {e f : Document} {ms ns : List Line}
+    (short : NoMemory) → Begun tag all d ls rest e ms → (f ≡ e) × (ns ≡ ms) → Adds (Err short) tag all d ls f ns
+one_short short b (same, as_before) = adds_short (begun_kept b same as_before)
 
-tried_plain : (d : Document) (c : Piece) (p q : ℕ) (x : Sentence) (r : Tried) → c ≡ piece p q x → is_plain x.kind ≡ true → attempt d p x ≡ r
-    → tried d c ≡ r
-tried_plain d c p q x r e h a = ap (tried d) e ∙ ap (λ b. if b then attempt d p x else refused exn.Unsupported) h ∙ a
-
-pub one_full : (tag : List ℕ) (d : Document) (c : Piece) (ls : List Line) (p q : ℕ) (x : Sentence) → c ≡ piece p q x
-    → is_plain x.kind ≡ true → attempt d p x ≡ refused (exn.TooMany p) → AddsOne (Ok (Some (exn.TooMany p))) tag d c ls d ls
-one_full tag d c ls p q x e h a = (tried_plain d c p q x (refused (exn.TooMany p)) e h a, refl, refl)
-
-pub one_added : (tag : List ℕ) (d f : Document) (c : Piece) (ls ms : List Line) (p q i : ℕ) (x : Sentence) → c ≡ piece p q x
-    → is_plain x.kind ≡ true → attempt d p x ≡ added f i None → ms ≡ ls ++ Added tag i p q None ∷ [] → AddsOne (Ok None) tag d c ls f ms
-one_added tag d f c ls ms p q i x e h a lines =
-    (i, None, tried_plain d c p q x (added f i None) e h a, lines
-    ∙ ap (λ z. ls ++ Added tag i (begin_of z) (end_of z) None ∷ []) (sym e))
+-- ---- the spans of a text
 
 -- what is left is the piece of a span, and the rest
-pub rest_is : (text : List ℕ) (spans : List Span) (i : ℕ) (x : Span) (last : List Piece) → i < length spans → x ≡ get_or spans i x
-    → map (piece_of text) (drop i spans) ++ last ≡ piece_of text x ∷ (map (piece_of text) (drop (i + 1) spans) ++ last)
-rest_is text spans i x last h e =
+rest_is : (text : List ℕ) (spans : List Span) (i : ℕ) (x : Span) (last : List Piece) → i < length spans
+    → map (piece_of text) (drop i spans) ++ last ≡ piece_of text (get_or spans i x) ∷ (map (piece_of text) (drop (i + 1) spans) ++ last)
+rest_is text spans i x last h =
     let next : suc i ≡ i + 1 = omega arith in
     ap (λ z. map (piece_of text) z ++ last) (drop-cons spans i x h)
-    ∙ ap (λ z. piece_of text z ∷ (map (piece_of text) (drop (suc i) spans) ++ last)) (sym e)
-    ∙ ap (λ n. piece_of text x ∷ (map (piece_of text) (drop n spans) ++ last)) next
+    ∙ ap (λ n. piece_of text (get_or spans i x) ∷ (map (piece_of text) (drop n spans) ++ last)) next
+
+pub begun_at : {tag : List ℕ} {all : List Piece} {d : Document} {ls : List Line} {e : Document} {ms : List Line} (text : List ℕ)
+    (spans : List Span) (i : ℕ) (x : Span) (last : List Piece) → i < length spans
+    → Begun tag all d ls (map (piece_of text) (drop i spans) ++ last) e ms
+    → Begun tag all d ls (piece_of text (get_or spans i x) ∷ (map (piece_of text) (drop (i + 1) spans) ++ last)) e ms
+begun_at {tag} {all} {d} {ls} {e} {ms} text spans i x last h b =
+    subst (λ (z : List Piece). Begun tag all d ls z e ms) (rest_is text spans i x last h) b
+
+-- all spans are done, and the text can't be cut further
+pub adds_end : {tag : List ℕ} {all : List Piece} {d : Document} {ls : List Line} {e : Document} {ms : List Line} (text : List ℕ)
+    (spans : List Span) (i : ℕ) (fault : Option CutFault) → length spans ≤ i
+    → Begun tag all d ls (map (piece_of text) (drop i spans) ++ unread_from fault) e ms → Adds (Ok (refusal_of fault)) tag all d ls e ms
+adds_end {tag} {all} {d} {ls} {e} {ms} text spans i None h b =
+    adds_all (subst (λ (z : List Span). Begun tag all d ls (map (piece_of text) z ++ []) e ms) (drop_all i spans h) b)
+adds_end {tag} {all} {d} {ls} {e} {ms} text spans i (Some fault) h b =
+    adds_refused (subst (λ (z : List Span). Begun tag all d ls (map (piece_of text) z ++ unread_from (Some fault)) e ms) (drop_all i spans h) b) refl

@@ -1,5 +1,5 @@
 -- Histories with one more event at their end.
-use Rattle.std.proofs.Common.{◌≡◌, ℕ, ◌+◌, ◌<◌, ◌≤◌, List, [], ◌∷◌, ◌++◌, true, false, Bool, refl, sym, ap, ◌∙◌, subst}
+use Rattle.std.proofs.Common.{◌≡◌, ℕ, ◌<◌, ◌≤◌, List, [], ◌∷◌, ◌++◌, true, false, Bool, refl, sym, ap, ◌∙◌, subst}
 use Rattle.std.proofs.Common.{append_assoc, append-nil, arith}
 use Rattle.stm_base.specs.Output.{Output, IsPut}
 use Rattle.serapi_cmd.specs.declared.request.Request.{Request}
@@ -24,7 +24,7 @@ use Rattle.doc_theory.specs.Histories.{
 }
 use Rattle.hist_core.specs.Events.{kept_lines}
 use Rattle.doc_core.specs.Answers.{MayBe, answer, answers, answers_from}
-use Rattle.doc_core.specs.Histories.{Standing, start, step, IsCommand, Asks, standing_from, standing, LegalFrom, Legal, render, asked}
+use Rattle.doc_core.specs.Histories.{Standing, start, step, IsCommand, Asks, standing_from, standing, LegalFrom, Legal, render}
 use Rattle.doc_core.specs.Kept.{Held, IsAnswered, IsKept, Takes}
 
 pub standing-grown : (p : Standing) (es : List Event) (e : Event) → standing_from p (es ++ e ∷ []) ≡ step (standing_from p es) e

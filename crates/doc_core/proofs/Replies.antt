@@ -17,7 +17,7 @@ use Rattle.doc_theory.specs.Answers.{Answer, answered, after, refused_line, stop
 use Rattle.hist_core.specs.declared.entry.Cut.{Cut}
 use Rattle.hist_core.specs.Events.{cut_of}
 use Rattle.doc_core.specs.Pieces.{pieces_of}
-use Rattle.doc_core.specs.Answers.{CommandMayBe, add_all, answer, is_simple, perform, steps, told}
+use Rattle.doc_core.specs.Answers.{add_all, is_simple, steps, told}
 use Rattle.doc_core.specs.Kept.{Adds, IsAnswered, Performs, cut_by, ending}
 use Rattle.doc_core.proofs.Adding.{alike}
 
@@ -25,26 +25,36 @@ use Rattle.doc_core.proofs.Adding.{alike}
 pub performs_add : (tag : List ℕ) (opts : AddOpts) (text : List ℕ) (d e : Document) (ls ms : List Line)
     (result : Result (Option Exn) NoMemory) → is_simple opts ≡ true → Adds result tag (pieces_of text) d ls e ms
     → Performs result tag (cmd.Add opts text) d ls e ms
-performs_add tag opts text d e ls ms (Ok x) simple (ks, lines, run) =
-    (ks, lines, ap (λ b. if b then told tag whole (add_all tag (pieces_of text) d)
-        else told tag whole (stopped d (Some exn.Unsupported))) simple
-    ∙ ap (told tag whole) run)
+performs_add tag opts text d e ls ms (Ok x) simple (ks, lines, run) = (
+  ks,
+  lines,
+  ap (λ b. if b then told tag whole (add_all tag (pieces_of text) d)
+      else told tag whole (stopped d (Some exn.Unsupported))) simple
+      ∙ ap (told tag whole) run,
+)
 performs_add tag opts text d e ls ms (Err short) simple (ks, lines, run, within) =
     let cut = after (length ks) in
     let all : steps d (cmd.Add opts text) ≡ length (add_all [] (pieces_of text) d).lines =
     ap (λ b. if b then length (add_all [] (pieces_of text) d).lines else 0) simple in
     let count = alike tag (pieces_of text) d in
-    let may : length ks ≤ steps d (cmd.Add opts text) = omega (arith, all, count, within) in
-    (ks, lines, ap (λ b. if b then told tag cut (add_all tag (take (length ks) (pieces_of text)) d)
-        else told tag cut (stopped d (Some exn.Unsupported))) simple
-    ∙ ap (told tag cut) run ∙ ap (answered e) (append-nil ks), may)
+    let may : length ks ≤ steps d (cmd.Add opts text) = omega (arith, all, count, within) in (
+      ks,
+      lines,
+      ap (λ b. if b then told tag cut (add_all tag (take (length ks) (pieces_of text)) d)
+          else told tag cut (stopped d (Some exn.Unsupported))) simple
+          ∙ ap (told tag cut) run ∙ ap (answered e) (append-nil ks),
+      may,
+    )
 
 -- an Add that isn't
 pub performs_other : (tag : List ℕ) (opts : AddOpts) (text : List ℕ) (d : Document) (ls : List Line) → is_simple opts ≡ false
     → Performs (Ok (Some exn.Unsupported)) tag (cmd.Add opts text) d ls d ls
-performs_other tag opts text d ls other =
-    ([], sym (append-nil ls), ap (λ b. if b then told tag whole (add_all tag (pieces_of text) d)
-        else told tag whole (stopped d (Some exn.Unsupported))) other)
+performs_other tag opts text d ls other = (
+  [],
+  sym (append-nil ls),
+  ap (λ b. if b then told tag whole (add_all tag (pieces_of text) d)
+      else told tag whole (stopped d (Some exn.Unsupported))) other,
+)
 
 -- the other commands
 pub performs_quit : (tag : List ℕ) (d : Document) (ls : List Line) → Performs (Ok None) tag cmd.Quit d ls d ls

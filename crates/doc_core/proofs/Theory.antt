@@ -1,5 +1,5 @@
 -- What is built is answered as doc_theory says.
-use Rattle.std.proofs.Common.{◌≡◌, ℕ, zero, suc, List, [], ◌∷◌, ◌++◌, take, Option, Some, None, Bool, true, not, ◌&&◌, is_some}
+use Rattle.std.proofs.Common.{◌≡◌, ℕ, zero, suc, List, [], ◌∷◌, ◌++◌, take, Option, Some, None, true, not, ◌&&◌, is_some}
 use Rattle.std.proofs.Common.{if◌then◌else◌, refl, sym, ap, ◌∙◌}
 use Rattle.serapi_cmd.specs.declared.command.AddOpts.{AddOpts}
 use Rattle.serapi_cmd.specs.declared.command.Command.{Command}
@@ -16,7 +16,7 @@ use Rattle.doc_theory.specs.Answers as theory
 use Rattle.doc_theory.specs.Answers.{Answer, Cut, add_step, after, answered, cut_to, is_on_top, limited, put_line, stopped}
 use Rattle.doc_theory.specs.Answers.{told_of, whole}
 use Rattle.doc_core.specs.Pieces.{pieces_of}
-use Rattle.doc_core.specs.Answers.{AreBuilt, IsBuilt, IsBuiltCommand, add_all, answer, is_plain, is_simple, last_lines, perform, told}
+use Rattle.doc_core.specs.Answers.{AreBuilt, IsBuilt, IsBuiltCommand, add_all, answer, is_simple, last_lines, perform, told}
 
 step_same : (tag : List ℕ) (p q : ℕ) (d : Document) (cs : List Piece) (r : Tried)
     → ((f : Document) → add_all tag cs f ≡ theory.add_all tag cs f)
@@ -63,7 +63,7 @@ add_same L d tag opts text cut pieces simple built =
     let run = run_same tag (cut_to cut (pieces_of text)) d (cut_built cut (pieces_of text) built) in
     let mine : perform d tag (cmd.Add opts text) cut ≡ told tag cut (theory.add_all tag (cut_to cut (pieces_of text)) d) =
     ap (λ b. if b then told tag cut (add_all tag (cut_to cut (pieces_of text)) d)
-        else told tag cut (stopped d (Some exn.Unsupported))) simple
+    else told tag cut (stopped d (Some exn.Unsupported))) simple
     ∙ ap (told tag cut) run in
     let its : theory.perform L d tag (cmd.Add opts text) cut ≡ told tag cut (theory.add_all tag (cut_to cut (pieces_of text)) d) =
     ap (λ o. added_by d tag cut o opts.lim (L.pieces text)) (no_ontop opts.ontop opts.lim simple)

@@ -1,6 +1,6 @@
 -- What the document answers to requests, as far as it is built. The rules are doc_theory's, with one refusal more, Unsupported, which goes
 -- when all of them are built.
-use Rattle.std.specs.Prelude.{◌≡◌, ℕ, ◌≤◌, List, [], ◌∷◌, ◌++◌, length, Bool, true, false, not, ◌&&◌, if◌then◌else◌, Option, Some, None, is_some}
+use Rattle.std.specs.Prelude.{◌≡◌, ℕ, ◌≤◌, List, [], ◌∷◌, ◌++◌, length, Bool, true, false, not, ◌&&◌, if◌then◌else◌, Some, None, is_some}
 use Rattle.serapi_cmd.specs.declared.command.AddOpts.{AddOpts}
 use Rattle.serapi_cmd.specs.declared.command.Command.{Command}
 use Rattle.serapi_cmd.specs.declared.command.Command.TheVariants as cmd

@@ -1,5 +1,5 @@
 -- What calls leave, and what a document keeps.
-use Rattle.std.specs.Prelude.{◌≡◌, ℕ, ◌+◌, ◌≤◌, ◌<◌, List, [], ◌∷◌, ◌++◌, map, length, take, Bool, false, Option, Some, None}
+use Rattle.std.specs.Prelude.{◌≡◌, ℕ, ◌≤◌, ◌<◌, List, [], ◌∷◌, ◌++◌, map, length, take, Bool, false, Option, Some, None}
 use Rattle.std.specs.Prelude.{Result, Ok, Err, if◌then◌else◌}
 use Rattle.base_core.specs.declared.no_memory.NoMemory.{NoMemory}
 use Rattle.stm_base.specs.Output.{Output, IsPut}
@@ -22,7 +22,7 @@ use Rattle.line_theory.specs.Shapes as shapes
 use Rattle.doc_theory.specs.Documents.{untold, Entry, Item, Document}
 use Rattle.doc_theory.specs.Editing.{refused, added}
 use Rattle.doc_theory.specs.Checks.{Piece, piece, unread}
-use Rattle.doc_theory.specs.Answers.{Cut, whole, after, Ran, Answer, answered, refused_line}
+use Rattle.doc_theory.specs.Answers.{Cut, whole, after, Ran, answered, refused_line}
 use Rattle.doc_theory.specs.Histories.{Event}
 use Rattle.doc_core.specs.Pieces.{sentence_of, begin_of, end_of}
 use Rattle.doc_core.specs.Answers.{tried, add_all, perform, answer, MayBe, CommandMayBe}

@@ -41,17 +41,19 @@ pub fn answer_request(
 }
 
 /// Answers a command. What is needed for the first line and the last ones is taken before anything is done.
-fn answer_command(
-    alloc: Global,
-    script: &mut Script,
-    tagged: &Tagged,
-) -> Result<Answered, NoMemory>
+fn answer_command(alloc: Global, script: &mut Script, tagged: &Tagged) -> Result<Answered, NoMemory>
     ensures ok { IfOk result (λ a. IsAnswered script.old (Request.Do tagged.now) (cut_of a.cut) a.lines script.new) }
     ensures err { OnErr result (script.new ≡ script.old) }
     ensures limit { script.new.limit ≡ script.old.limit }
 {
     let mut reply = begin_lines(alloc, &tagged.tag)?;
-    let stop = perform(alloc, script, &tagged.tag, &tagged.command, &mut reply.lines);
+    let stop = perform(
+        alloc,
+        script,
+        &tagged.tag,
+        &tagged.command,
+        &mut reply.lines,
+    );
     let (cut, lines) = reply.finish(stop);
     Ok(Answered { cut, lines })
 }

@@ -34,7 +34,11 @@ const ADDS: [(u64, &[u8], &[u8]); 5] = [
 fn texts_are_added(rt: HostRuntime) -> Result<(), Fail> {
     for (limit, text, middle) in ADDS {
         let written = written::<Brand>(rt.alloc(), Blank::new(1), limit, text)?;
-        let whole = [b"(Answer 0 Ack)\n".as_slice(), middle, b"(Answer 0 Completed)\n"];
+        let whole = [
+            b"(Answer 0 Ack)\n".as_slice(),
+            middle,
+            b"(Answer 0 Completed)\n",
+        ];
         assert!(rt; is_joined(written.as_slice(), &whole));
     }
     Ok(())

@@ -1,16 +1,34 @@
-use Rattle.std.proofs.Common.{◌≡◌, ◌++◌, ◌∷◌, [], List, map, drop, ap, sym, subst, rules, Option, Ok, Err, Some, None}
-use Rattle.serapi_ans.specs.declared.line.Line.{Line}
+use Rattle.std.proofs.Common.{◌∙◌, ap, sym, subst, rules, Option, Ok}
+use Rattle.serapi_ans.specs.declared.line.Exn.{Exn}
 use Rattle.vern_lex.specs.Sentences.{sentences_of}
-use Rattle.doc_theory.specs.Checks.{Piece}
-use Rattle.doc_core.specs.Pieces.{piece_of, pieces_of, unread_from}
-use Rattle.doc_core.proofs.Adding.{Begun, adds_all, adds_refused, adds_short, begun_added, rest_is}
+use Rattle.vern_lex.specs.declared.sentences.SentenceCut.{SentenceCut}
+use Rattle.doc_core.specs.Pieces.{pieces_of, unread_from}
+use Rattle.doc_core.specs.Kept.{Adds, refusal_of}
+use Rattle.doc_core.proofs.Adding.{adds_end, begun_at, one_more, one_refused, one_short}
 use Rattle.doc_core.proofs.add.add_text.Goals as goal
 
 pub loop-span-preserved : goal.loop-span-preserved
 loop-span-preserved c =
-    let rest = rest_is c.args.text.now c.as_slice-span-items.result.now c.loop-span.span-index c.span-item.result
-    (unread_from (sentences_of c.args.text.now).fault) (search rules) c.span-item.is in
-    let begun = subst (λ (z : List Piece). Begun c.args.tag.now (pieces_of c.args.text.now) c.args.script.now c.args.lines.now.items z
-        c.loop-span.script c.loop-span.lines.items) rest c.loop-span.invariant.0 in
-    let adds = rw c.in-Ok-None.field-0-is at c.in-Ok-None.ensures.adds in
-    (begun_added begun adds.2 adds.3, c.in-Ok-None.ensures.room, search rules)
+    let text = c.args.text.now in (
+      one_more (begun_at text c.as_slice-span-items.result.now c.loop-span.span-index _ (unread_from (sentences_of text).fault)
+          c.loop-span-test.true c.loop-span.invariant.0) (rw c.in-Ok-None.field-0-is at c.in-Ok-None.ensures.adds),
+      c.in-Ok-None.ensures.room,
+      search rules,
+    )
+
+pub returns-in-Ok-Some-clause-adds : goal.returns-in-Ok-Some-clause-adds
+returns-in-Ok-Some-clause-adds c =
+    let text = c.args.text.now in
+    one_refused (begun_at text c.as_slice-span-items.result.now c.loop-span.span-index _ (unread_from (sentences_of text).fault)
+    c.loop-span-test.true c.loop-span.invariant.0) (rw c.in-Ok-Some.field-0-is at c.in-Ok-Some.ensures.adds)
+
+pub returns-in-Err-clause-adds : goal.returns-in-Err-clause-adds
+returns-in-Err-clause-adds c = one_short c.in-Err.field-0 c.loop-span.invariant.0 c.in-Err.ensures.adds
+
+pub returns-clause-adds : goal.returns-clause-adds
+returns-clause-adds c =
+    let text = c.args.text.now in
+    subst (λ (x : Option Exn). Adds (Ok x) c.args.tag.now (pieces_of text) c.args.script.now c.args.lines.now.items c.loop-span.script
+    c.loop-span.lines.items) (sym (c.refusal_of.ensures ∙ ap (λ (s : SentenceCut). refusal_of s.fault) c.in_ok-cut.ensures))
+    (adds_end text c.as_slice-span-items.result.now c.loop-span.span-index (sentences_of text).fault c.loop-span-test.false
+    c.loop-span.invariant.0)

@@ -1,4 +1,4 @@
-use Rattle.std.proofs.Common.{◌≡◌, ◌∙◌, ap, not, sym, subst, true}
+use Rattle.std.proofs.Common.{◌≡◌, ◌∙◌, ◌^◌, ap, nat_lt, not, sym, subst, true}
 use Rattle.std.proofs.lemmas.Bool.{le-ltb}
 use Rattle.serapi_ans.specs.declared.line.Exn.TheVariants as exn
 use Rattle.doc_theory.specs.Documents.{Document}
@@ -21,5 +21,5 @@ returns-then-not-has_room-clause-refuses c =
 pub returns-else-not-has_room-clause-full : goal.returns-else-not-has_room-clause-full
 returns-else-not-has_room-clause-full c =
     let s = c.self.inside in
-    sym (subst (λ (d : Document). is_full d ≡ _) c.self.view_is
+    sym (subst (λ (d : Document). is_full d ≡ not (nat_lt s.next (2 ^ 62))) c.self.view_is
     (full-by-id s.entries s.next s.limit c.len.result c.len.ensures c.if-not-has_room.false))
