@@ -71,7 +71,6 @@ fn written<L: Ledger>(
     let mut steps: Steps<L> = Steps::new(blank);
     let mut document = Document::new(alloc, limit)?;
     document.reserve()?;
-    let mut out = Out::new(MemSink::new(Vec::new(alloc), 4096, Vec::new(alloc)));
     let request = Request::Do(Tagged {
         tag: SharedBytes::from_slice(alloc, b"0")?,
         command: Command::Add(
@@ -83,6 +82,9 @@ fn written<L: Ledger>(
             Bytes::from_slice(alloc, text)?,
         ),
     });
-    document.command(alloc, 0, request, &mut out, &mut steps)?;
-    Bytes::from_slice(alloc, out.into_sink().bytes())
+    let mut out = Out::new(MemSink::new(Vec::new(alloc), 4096, Vec::new(alloc)));
+    let answered = document.command(alloc, 0, request, &mut out, &mut steps);
+    let sink = out.into_sink();
+    answered?;
+    Bytes::from_slice(alloc, sink.bytes())
 }
