@@ -18,6 +18,13 @@ use Rattle.doc_lock.proofs.Places.{same_view}
 use Rattle.doc_lock.proofs.Fitting.{Joined, Fits, Fitting, fitting, kept}
 use Rattle.doc_lock.proofs.Steps.{one_seat, counted}
 
+module _ {E : Type 0} (author : E → ℕ) (log : List E) (made : ℕ) (owner : ℕ → ℕ) (seat number : ℕ) where
+  -- a number that was joined into a seat belongs to that seat
+  belongs : (n : ℕ) (ps : List (Folded E)) → Has n ps → Each (Joined author log made owner seat number) ps → owner n ≡ seat
+  belongs n [] h e = absurd h
+  belongs n (p ∷ ps) h e =
+      ⊎_elim (λ (q : p.number ≡ n). ap owner (sym q) ∙ e.0.0) (λ (t : Has n ps). belongs n ps t e.1) h
+
 module _ {S E O : Type 0} (list : S → List E) (author : E → ℕ) (origin : S → O) where
   abbrev D : Type 0
   D = View E O
@@ -73,48 +80,44 @@ module _ {S E O : Type 0} (list : S → List E) (author : E → ℕ) (origin : S
 
   -- ---- the end
 
-  -- a number that was joined into a seat belongs to that seat
-  belongs : (log : List E) (made : ℕ) (owner : ℕ → ℕ) (seat number n : ℕ) (ps : List (Folded E)) → Has n ps
-      → Each (Joined author log made owner seat number) ps → owner n ≡ seat
-  belongs log made owner seat number n [] h e = absurd h
-  belongs log made owner seat number n (p ∷ ps) h e =
-      ⊎_elim (λ (q : p.number ≡ n). ap owner (sym q) ∙ e.0.0) (λ (t : Has n ps). belongs log made owner seat number n ps t e.1) h
+  module _ (s : St) (r : Fit s) (id : ℕ) (v : D) where
+    -- where all other seats were joined into this one, and it doesn't hold, none does
+    none_holds : get_elem? s.views id ≡ some v → v.live ≡ true → v.holds ≡ false → v.number ≡ 0
+        → Covers v → IsOut s → ⊥
+    none_holds at live free zeroth all out = let a = out.holder in let u : D = a.view in let fit = r.each id v at live in
+        let fut = r.each a.seat u a.at a.live in
+        let same : a.seat ≡ id = dite (ℕ_discrete u.number 0)
+        (λ z. one_seat list author origin r a.at a.live at live (z ∙ sym zeroth))
+        (λ nz. let b = fut.below in let count : v.made ≡ r.made = counted list author origin s r id v at live zeroth in
+        sym fut.here ∙ belongs author r.log r.made r.owner id v.number u.number v.joined
+        (all u.number (omega arith) (omega arith)) fit.joined) in
+        true≢false (sym a.has ∙ (ap (λ (d : D). d.holds) (same_view s.views a.seat id u v a.at at same) ∙ free))
 
-  -- where all other seats were joined into this one, and it doesn't hold, none does
-  none_holds : (s : St) (r : Fit s) (id : ℕ) (v : D) → get_elem? s.views id ≡ some v → v.live ≡ true → v.holds ≡ false → v.number ≡ 0
-      → Covers v → IsOut s → ⊥
-  none_holds s r id v at live free zeroth all out = let a = out.holder in let u : D = a.view in let fit = r.each id v at live in
-      let fut = r.each a.seat u a.at a.live in
-      let same : a.seat ≡ id = dite (ℕ_discrete u.number 0)
-      (λ z. one_seat list author origin s r a.seat id u v a.at a.live at live (z ∙ sym zeroth))
-      (λ nz. let b = fut.below in let count : v.made ≡ r.made = counted list author origin s r id v at live zeroth in
-      sym fut.here ∙ belongs r.log r.made r.owner id v.number u.number v.joined (all u.number (omega arith) (omega arith)) fit.joined) in
-      true≢false (sym a.has ∙ (ap (λ (d : D). d.holds) (same_view s.views a.seat id u v a.at at same) ∙ free))
-
-  pub closes : (id : ℕ) (v : D) (ws : List ℕ) (xs : List (Option S)) → v.live ≡ true → v.holds ≡ false → v.number ≡ 0 → v.origin ≢ None
-      → Covers v → Final (Seen Rule id v) ws xs
-      → (x : S) × (get_elem? xs 0 ≡ some (Some x)) × Ends list author origin v x
-  closes id v ws xs live free zeroth begun all f = let s : St = f.0 in let r : Fit s = fitting list author origin s f.1.0 in
-      let at : get_elem? s.views id ≡ some v = f.1.1 in let fit = r.each id v at live in
-      let home : IsHome list origin s r.log r.base r.flag = ⊎_elim (λ (h : IsHome list origin s r.log r.base r.flag). h)
-      (λ (t : IsOut s ⊎ IsBeginning s r.log r.base). ⊎_elim (λ (a : IsOut s). absurd (none_holds s r id v at live free zeroth all a))
-      (λ (b : IsBeginning s r.log r.base). absurd (begun (fit.based ∙ b.no_origin))) t) r.slot in
-      let x : S = home.state in let is : r.log ≡ list x = sym home.entries in (
-        x,
-        f.4 0 (Some x) (ap (λ hs. get_elem? hs 0) home.there),
-        (
-          record {
-            begins = subst (Begins v.seen) is fit.begins;
-            own = ap (only author v.number) home.entries ∙ fit.own;
-            joined = each_map (Joined author r.log r.made r.owner id v.number) (λ p. Begins p.seen (list x)
-                × (only author p.number (list x) ≡ p.mine)) (λ p h. (
-                  subst (Begins p.seen) is h.4,
-                  ap (only author p.number) home.entries
-                      ∙ h.3,
-                )) v.joined fit.joined;
-            based = fit.based ∙ home.based;
-          },
-          subst (Each (λ e. author e < v.made)) is (each_map (λ e. author e < r.made) (λ e. author e < v.made)
-              (λ e h. let count : v.made ≡ r.made = counted list author origin s r id v at live zeroth in omega arith) r.log r.named),
-        ),
-      )
+  module _ (id : ℕ) (v : D) (ws : List ℕ) (xs : List (Option S)) where
+    pub closes : v.live ≡ true → v.holds ≡ false → v.number ≡ 0 → v.origin ≢ None
+        → Covers v → Final (Seen Rule id v) ws xs
+        → (x : S) × (get_elem? xs 0 ≡ some (Some x)) × Ends list author origin v x
+    closes live free zeroth begun all f = let s : St = f.0 in let r : Fit s = fitting list author origin s f.1.0 in
+        let at : get_elem? s.views id ≡ some v = f.1.1 in let fit = r.each id v at live in
+        let home : IsHome list origin s r.log r.base r.flag = ⊎_elim (λ (h : IsHome list origin s r.log r.base r.flag). h)
+        (λ (t : IsOut s ⊎ IsBeginning s r.log r.base). ⊎_elim (λ (a : IsOut s). absurd (none_holds s r id v at live free zeroth all a))
+        (λ (b : IsBeginning s r.log r.base). absurd (begun (fit.based ∙ b.no_origin))) t) r.slot in
+        let x : S = home.state in let is : r.log ≡ list x = sym home.entries in (
+          x,
+          f.4 0 (Some x) (ap (λ hs. get_elem? hs 0) home.there),
+          (
+            record {
+              begins = subst (Begins v.seen) is fit.begins;
+              own = ap (only author v.number) home.entries ∙ fit.own;
+              joined = each_map (Joined author r.log r.made r.owner id v.number) (λ p. Begins p.seen (list x)
+                  × (only author p.number (list x) ≡ p.mine)) (λ p h. (
+                    subst (Begins p.seen) is h.4,
+                    ap (only author p.number) home.entries
+                        ∙ h.3,
+                  )) v.joined fit.joined;
+              based = fit.based ∙ home.based;
+            },
+            subst (Each (λ e. author e < v.made)) is (each_map (λ e. author e < r.made) (λ e. author e < v.made)
+                (λ e h. let count : v.made ≡ r.made = counted list author origin s r id v at live zeroth in omega arith) r.log r.named),
+          ),
+        )

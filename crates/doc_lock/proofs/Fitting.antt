@@ -14,13 +14,13 @@ module _ {E : Type 0} (author : E → ℕ) where
   Joined log made owner seat number p = (owner p.number ≡ seat) × (p.number < made) × (p.number ≢ number)
       × (only author p.number log ≡ p.mine) × Begins p.seen log
 
+module _ {E : Type 0} (author : E → ℕ) (log : List E) (made : ℕ) (owner : ℕ → ℕ) (seat number : ℕ) where
   -- it is what the rule says of it, sentence by sentence
-  together : (log : List E) (made : ℕ) (owner : ℕ → ℕ) (seat number : ℕ) (ps : List (Folded E)) → Each (λ p. owner p.number ≡ seat) ps
-      → Each (λ p. p.number < made) ps → Each (λ p. p.number ≢ number) ps
-      → Each (λ p. only author p.number log ≡ p.mine) ps → Each (λ p. Begins p.seen log) ps → Each (Joined log made owner seat number) ps
-  together log made owner seat number [] a b c d e = tt
-  together log made owner seat number (p ∷ ps) a b c d e =
-      ((a.0, b.0, c.0, d.0, e.0), together log made owner seat number ps a.1 b.1 c.1 d.1 e.1)
+  together : (ps : List (Folded E)) → Each (λ p. owner p.number ≡ seat) ps → Each (λ p. p.number < made) ps
+      → Each (λ p. p.number ≢ number) ps → Each (λ p. only author p.number log ≡ p.mine) ps → Each (λ p. Begins p.seen log) ps
+      → Each (Joined author log made owner seat number) ps
+  together [] a b c d e = tt
+  together (p ∷ ps) a b c d e = ((a.0, b.0, c.0, d.0, e.0), together ps a.1 b.1 c.1 d.1 e.1)
 
 module _ {E O : Type 0} (author : E → ℕ) where
   -- what the rule says of one seat

@@ -103,72 +103,73 @@ module _ {S E O : Type 0} (list : S → List E) (author : E → ℕ) (origin : S
             (last_new vs u d j there);
       }
 
-  pub joins : (id : ℕ) (v : D) (other : ℕ) (w : D) → v.live ≡ true → v.holds ≡ false → w.live ≡ true → w.holds ≡ false → w.number ≢ 0
-      → Joins Rule id v other w (joining v w) spent
-  joins id v other w live free alive calm counts s k at apart there' = let r : Fit s = fitting list author origin s k in
-      let there : get_elem? s.views other ≡ some w = sym (set_else s.views id other (joining v w) apart) ∙ there' in
-      let fit = r.each id v at live in let fat = r.each other w there alive in let both : D = joining v w in
-      let vs : List D = set s.views id both in
-      let t : St = record { words = s.words; homes = s.homes; views = set vs other spent } in
-      let owner : ℕ → ℕ = λ k. cond (eqb (r.owner k) other) id (r.owner k) in
-      let kept_place : (k j : ℕ) → j ≢ other → r.owner k ≡ j
-      → owner k ≡ j = λ k j ne e. ap (λ b. cond b id (r.owner k)) (ne_eqb (r.owner k) other (λ q. ne (sym e ∙ q))) ∙ e in
-      let moved : (k : ℕ) → r.owner k ≡ other → owner k ≡ id = λ k e. ap (λ b. cond b id (r.owner k)) (eq-eqb (r.owner k) other e) in
-      let un : id ≢ other = λ e. apart (sym e) in
-      let apart_numbers : (k : ℕ) → r.owner k ≡ other → k ≢ v.number = λ k e q. un (sym fit.here ∙ (ap r.owner (sym q) ∙ e)) in
-      let ours = each_map (Joined author r.log r.made r.owner id v.number) (Joined author r.log r.made owner id v.number)
-      (λ p h. (kept_place p.number id un h.0, h.1, h.2, h.3, h.4)) v.joined fit.joined in
-      let theirs = each_map (Joined author r.log r.made r.owner other w.number) (Joined author r.log r.made owner id v.number)
-      (λ p h. (moved p.number h.0, h.1, apart_numbers p.number h.0, h.3, h.4)) w.joined fat.joined in
-      kept list author origin t record {
-        log = r.log;
-        made = r.made;
-        flag = r.flag;
-        base = r.base;
-        owner = owner;
-        words = r.words;
-        slot = ⊎_elim (λ (h : IsHome list origin s r.log r.base r.flag). inl record {
-          free = h.free;
-          state = h.state;
-          there = h.there;
-          entries = h.entries;
-          based = h.based;
-        })
-            (λ (q : IsOut s ⊎ IsBeginning s r.log r.base). ⊎_elim
-            (λ (a : IsOut s). inr (inl record {
-              gone = a.gone;
-              holder = some_other (λ v. v.holds ≡ true) vs other w spent there' (λ h. true≢false (sym h ∙ calm))
-                  (some_stays (λ v. v.holds ≡ true) s.views id v both at live (λ h. h) a.holder);
-            }))
-            (λ (b : IsBeginning s r.log r.base). absurd (apart (one_place s.views other id w v (r.alone b.no_origin).0 there at))) q)
-            r.slot;
-        first = some_other (λ v. (v.number ≡ 0) × (v.made ≡ r.made)) vs other w spent there' (λ h. counts h.0)
-            (some_stays (λ v. (v.number ≡ 0) × (v.made ≡ r.made)) s.views id v both at live (λ h. h) r.first);
-        named = r.named;
-        alone = λ b. absurd (apart (one_place s.views other id w v (r.alone b).0 there at));
-        each = seats_stay (λ j d. d.live ≡ true → Fits author r.log r.made r.flag r.base owner j d) vs other spent
-            (λ h. absurd (true≢false (sym h)))
-            (λ j d ne e. seats_stay (λ j d. j ≢ other → d.live ≡ true → Fits author r.log r.made r.flag r.base owner j d) s.views id both
-            (λ _ _. record {
-              here = kept_place v.number id un fit.here;
-              below = fit.below;
-              begins = longer_begins v.seen w.seen r.log fit.begins fat.begins;
-              own = fit.own;
-              joined = (
-                (moved w.number fat.here, fat.below, apart_numbers w.number fat.here, fat.own, fat.begins),
-                each_append (Joined author r.log r.made owner id v.number) v.joined w.joined ours theirs,
-              );
-              based = fit.based;
-              holder = λ h. absurd (true≢false (sym h ∙ free));
-            })
-            (λ j d not e' ne' lives. let f = r.each j d e' lives in record {
-              here = kept_place d.number j ne' f.here;
-              below = f.below;
-              begins = f.begins;
-              own = f.own;
-              joined = each_map (Joined author r.log r.made r.owner j d.number) (Joined author r.log r.made owner j d.number)
-                  (λ p h. (kept_place p.number j ne' h.0, h.1, h.2, h.3, h.4)) d.joined f.joined;
-              based = f.based;
-              holder = f.holder;
-            }) j d e ne);
-      }
+  module _ (id : ℕ) (v : D) (other : ℕ) (w : D) where
+    pub joins : v.live ≡ true → v.holds ≡ false → w.live ≡ true → w.holds ≡ false → w.number ≢ 0
+        → Joins Rule id v other w (joining v w) spent
+    joins live free alive calm counts s k at apart there' = let r : Fit s = fitting list author origin s k in
+        let there : get_elem? s.views other ≡ some w = sym (set_else s.views id other (joining v w) apart) ∙ there' in
+        let fit = r.each id v at live in let fat = r.each other w there alive in let both : D = joining v w in
+        let vs : List D = set s.views id both in
+        let t : St = record { words = s.words; homes = s.homes; views = set vs other spent } in
+        let owner : ℕ → ℕ = λ k. cond (eqb (r.owner k) other) id (r.owner k) in
+        let kept_place : (k j : ℕ) → j ≢ other → r.owner k ≡ j
+        → owner k ≡ j = λ k j ne e. ap (λ b. cond b id (r.owner k)) (ne_eqb (r.owner k) other (λ q. ne (sym e ∙ q))) ∙ e in
+        let moved : (k : ℕ) → r.owner k ≡ other → owner k ≡ id = λ k e. ap (λ b. cond b id (r.owner k)) (eq-eqb (r.owner k) other e) in
+        let un : id ≢ other = λ e. apart (sym e) in
+        let apart_numbers : (k : ℕ) → r.owner k ≡ other → k ≢ v.number = λ k e q. un (sym fit.here ∙ (ap r.owner (sym q) ∙ e)) in
+        let ours = each_map (Joined author r.log r.made r.owner id v.number) (Joined author r.log r.made owner id v.number)
+        (λ p h. (kept_place p.number id un h.0, h.1, h.2, h.3, h.4)) v.joined fit.joined in
+        let theirs = each_map (Joined author r.log r.made r.owner other w.number) (Joined author r.log r.made owner id v.number)
+        (λ p h. (moved p.number h.0, h.1, apart_numbers p.number h.0, h.3, h.4)) w.joined fat.joined in
+        kept list author origin t record {
+          log = r.log;
+          made = r.made;
+          flag = r.flag;
+          base = r.base;
+          owner = owner;
+          words = r.words;
+          slot = ⊎_elim (λ (h : IsHome list origin s r.log r.base r.flag). inl record {
+            free = h.free;
+            state = h.state;
+            there = h.there;
+            entries = h.entries;
+            based = h.based;
+          })
+              (λ (q : IsOut s ⊎ IsBeginning s r.log r.base). ⊎_elim
+              (λ (a : IsOut s). inr (inl record {
+                gone = a.gone;
+                holder = some_other (λ v. v.holds ≡ true) vs other w spent there' (λ h. true≢false (sym h ∙ calm))
+                    (some_stays (λ v. v.holds ≡ true) s.views id v both at live (λ h. h) a.holder);
+              }))
+              (λ (b : IsBeginning s r.log r.base). absurd (apart (one_place s.views other id w v (r.alone b.no_origin).0 there at))) q)
+              r.slot;
+          first = some_other (λ v. (v.number ≡ 0) × (v.made ≡ r.made)) vs other w spent there' (λ h. counts h.0)
+              (some_stays (λ v. (v.number ≡ 0) × (v.made ≡ r.made)) s.views id v both at live (λ h. h) r.first);
+          named = r.named;
+          alone = λ b. absurd (apart (one_place s.views other id w v (r.alone b).0 there at));
+          each = seats_stay (λ j d. d.live ≡ true → Fits author r.log r.made r.flag r.base owner j d) vs other spent
+              (λ h. absurd (true≢false (sym h)))
+              (λ j d ne e. seats_stay (λ j d. j ≢ other → d.live ≡ true → Fits author r.log r.made r.flag r.base owner j d) s.views id both
+              (λ _ _. record {
+                here = kept_place v.number id un fit.here;
+                below = fit.below;
+                begins = longer_begins v.seen w.seen r.log fit.begins fat.begins;
+                own = fit.own;
+                joined = (
+                  (moved w.number fat.here, fat.below, apart_numbers w.number fat.here, fat.own, fat.begins),
+                  each_append (Joined author r.log r.made owner id v.number) v.joined w.joined ours theirs,
+                );
+                based = fit.based;
+                holder = λ h. absurd (true≢false (sym h ∙ free));
+              })
+              (λ j d not e' ne' lives. let f = r.each j d e' lives in record {
+                here = kept_place d.number j ne' f.here;
+                below = f.below;
+                begins = f.begins;
+                own = f.own;
+                joined = each_map (Joined author r.log r.made r.owner j d.number) (Joined author r.log r.made owner j d.number)
+                    (λ p h. (kept_place p.number j ne' h.0, h.1, h.2, h.3, h.4)) d.joined f.joined;
+                based = f.based;
+                holder = f.holder;
+              }) j d e ne);
+        }

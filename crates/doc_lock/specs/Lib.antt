@@ -1,4 +1,5 @@
 pub mod Kept
 pub mod Lists
+pub mod Parties
 pub mod Told
 pub mod Views

@@ -2,51 +2,39 @@
 use Rattle.std.specs.Prelude.{◌≡◌, ◌≢◌, ◌⊎◌, ℕ, ◌+◌, ◌<◌, ◌≤◌, true, false, List, [], ◌∷◌, length, Some}
 use Rattle.doc_lock.specs.declared.view.Folded.{Folded}
 use Rattle.doc_lock.specs.declared.view.View.{View}
-use Rattle.doc_lock.specs.declared.lock.DocLock.{DocLock}
-use Rattle.doc_lock.specs.declared.lock.Held.{Held}
 use Rattle.doc_lock.specs.declared.lock.Tried.{Tried}
-use Rattle.doc_lock.specs.declared.lock.SeatOf.{SeatOf}
 use Rattle.doc_lock.specs.declared.lock.Tried.TheVariants.{Held as Won, Busy}
+use Rattle.doc_lock.specs.Parties.{Lock, Sitting, Holding}
 use Rattle.doc_lock.specs.Lists.{Each}
 use Rattle.doc_lock.specs.Views.{Shows, holding, freeing, publishing}
 
 -- ---- seats, locks and holdings
 
-module _ {S E O : Type 0} where
-  -- what a seat knows
-  abbrev pub knows : SeatOf S E O → View E O
-  knows s = s.place.me.0
-
+module _ {E O : Type 0} where
   -- the seat is one of this lock
-  abbrev pub IsOf : DocLock S E O → SeatOf S E O → Type 0
-  IsOf l s = s.place.table_id ≡ l.table.shared.table_id
+  abbrev pub IsOf : Lock → Sitting E O → Type 0
+  IsOf l s = s.lock ≡ l.id
 
   -- two seats of one lock
-  abbrev pub IsBeside : SeatOf S E O → SeatOf S E O → Type 0
-  IsBeside s t = t.place.table_id ≡ s.place.table_id
+  abbrev pub IsBeside : Sitting E O → Sitting E O → Type 0
+  IsBeside s t = t.lock ≡ s.lock
 
-  -- how many seats the lock may have in all
-  abbrev pub seats_of : DocLock S E O → ℕ
-  seats_of l = l.seats
-
+module _ {S : Type 0} where
   -- the holding is one of this lock
-  abbrev pub IsHeldOf : DocLock S E O → Held S E O → Type 0
-  IsHeldOf l h = h.lock.now.table.shared.table_id ≡ l.table.shared.table_id
-
-  -- the seat is one of the lock that is held
-  abbrev pub IsWith : Held S E O → SeatOf S E O → Type 0
-  IsWith h s = s.place.table_id ≡ h.lock.now.table.shared.table_id
-
-  -- the state of a holding
-  abbrev pub held_state : Held S E O → S
-  held_state h = h.state
+  abbrev pub IsHeldOf : Lock → Holding S → Type 0
+  IsHeldOf l h = h.lock ≡ l.id
 
   -- the holding with another state
-  abbrev pub with_state : Held S E O → S → Held S E O
-  with_state h x = record { lock = h.lock; state = x; mark = h.mark }
+  abbrev pub with_state : Holding S → S → Holding S
+  with_state h x = record { lock = h.lock; state = x }
+
+module _ {S E O : Type 0} where
+  -- the seat is one of the lock that is held
+  abbrev pub IsWith : Holding S → Sitting E O → Type 0
+  IsWith h s = s.lock ≡ h.lock
 
   -- P of the holding where the try won, and else Q
-  abbrev pub MatchTried : Tried S E O → (Held S E O → Type 0) → Type 0 → Type 0
+  abbrev pub MatchTried : Tried S E O → (Holding S → Type 0) → Type 0 → Type 0
   MatchTried (Won h) P Q = P h
   MatchTried Busy P Q = Q
 

@@ -1,12 +1,10 @@
 //! The lock, its seats and its holdings.
-ghost use Rattle.std.specs.Prelude.{◌≡◌, ◌≢◌, ℕ, true, false, [], ◌∷◌, None};
-
 use crate::guarded::Guarded;
 use crate::plays::Rule;
 use crate::view::View;
 use atomic_table::{Shared, Table};
 use std::alloc::Global;
-use std::marker::PhantomData;
+use std::marker::{Model, PhantomData};
 
 mod crossing;
 mod first;
@@ -49,7 +47,16 @@ pub(crate) type PlaceOf<S> = atomic_table::Seat<
 pub struct DocLock<S: Guarded> {
     table: TableOf<S>,
     seats: u32,
-    ghost sized: { (table.shared.table_id.words ≡ 2) × (table.shared.table_id.slots ≡ 1) },
+}
+
+impl<S: Guarded> Model for DocLock<S> {
+    ghost use Rattle.doc_lock.specs.Parties.{Lock, IsLock};
+
+    ghost Value = { Lock };
+
+    ghost view = { λ l. record { id = l.table.shared.table_id; seats = l.seats } };
+
+    ghost invariant = { λ l. IsLock l.table.shared.table_id l.seats };
 }
 
 /// A seat at the lock of a state `S` with entries `E` and an origin `O`. It can't be let go: it is joined into
@@ -58,10 +65,16 @@ pub struct SeatOf<S, E, O> {
     number: u32,
     made: u32,
     place: atomic_table::Seat<Option<S>, View<E, O>>,
-    ghost numbered: { (place.me.0.number ≡ number) × (place.me.0.made ≡ made) × (place.me.0.live ≡ true) },
-    ghost begun: { place.me.0.origin ≢ None },
-    ghost free: { place.me.0.holds ≡ false → place.me.1 ≡ [] },
-    ghost holding: { place.me.0.holds ≡ true → place.me.1 ≡ (0, None) ∷ [] },
+}
+
+impl<S, E, O> Model for SeatOf<S, E, O> {
+    ghost use Rattle.doc_lock.specs.Parties.{Sitting, IsSeat};
+
+    ghost Value = { Sitting E O };
+
+    ghost view = { λ s. record { lock = s.place.table_id; view = s.place.me.0 } };
+
+    ghost invariant = { λ s. IsSeat s.number s.made s.place.me };
 }
 
 /// A seat at the lock of a state.
@@ -73,6 +86,14 @@ pub struct Held<'a, S: Guarded> {
     state: S,
     // Without a `&mut` among the types of the fields the clause of `state` gets no proof.
     mark: PhantomData<&'a mut u8>,
+}
+
+impl<'a, S: Guarded> Model for Held<'a, S> {
+    ghost use Rattle.doc_lock.specs.Parties.{Holding};
+
+    ghost Value = { Holding S };
+
+    ghost view = { λ h. record { lock = h.lock.now.id; state = h.state } };
 }
 
 /// What one try of the flag comes to.

@@ -1,5 +1,26 @@
 -- What a sentence declares has the sentence's name, and parameters with names of their own.
-use Rattle.std.proofs.Common.{◌≡◌, ℕ, Bool, true, false, List, [], ◌∷◌, ◌++◌, refl, sym, ap, subst, ◌∙◌, if◌then◌else◌, Option, Some, None, Ok, true≢false}
+use Rattle.std.proofs.Common.{
+  ◌≡◌,
+  ℕ,
+  Bool,
+  true,
+  false,
+  List,
+  [],
+  ◌∷◌,
+  ◌++◌,
+  refl,
+  sym,
+  ap,
+  subst,
+  ◌∙◌,
+  ◌||◌,
+  Option,
+  Some,
+  None,
+  Ok,
+  true≢false,
+}
 use Rattle.vern_grammar.specs.Trees.{Name, Group, Expression, Shape, set, prop, arrow, plain}
 use Rattle.fol_theory.specs.Syntax.{Formula, is_name}
 use Rattle.env_theory.specs.Declarations.{Parameter, Declaration, function, predicate, stated, term, formula, name_of, find}
@@ -10,7 +31,28 @@ use Rattle.base_core.specs.Answers.{and_then}
 use Rattle.elab_theory.specs.Faults.{already_declared}
 use Rattle.elab_theory.specs.Locals.{known}
 use Rattle.elab_theory.specs.Expressions.{span_of, sort_at, of_sort, term_of, formula_of}
-use Rattle.elab_theory.specs.Sentences.{new_name, sorts_before, chain_of, Last, a_predicate, a_function, a_formula, last_of, shape_by, shape_of, is_among, new_names, names_of, with_sort, locals_of, parameters_of, defined_by, declaration_of, definition_of, statement_of}
+use Rattle.elab_theory.specs.Sentences.{
+  new_name,
+  sorts_before,
+  chain_of,
+  Last,
+  a_predicate,
+  a_function,
+  a_formula,
+  last_of,
+  shape_by,
+  shape_of,
+  is_among,
+  new_names,
+  names_of,
+  with_sort,
+  locals_of,
+  parameters_of,
+  defined_by,
+  declaration_of,
+  definition_of,
+  statement_of,
+}
 use Rattle.elab_theory.proofs.Results.{ok_is, steps, failed}
 use Rattle.elab_theory.proofs.Admitted.{new_name_is, declaration_admitted, definition_admitted, statement_admitted}
 
@@ -19,30 +61,30 @@ use Rattle.elab_theory.proofs.Admitted.{new_name_is, declaration_admitted, defin
 -- each is none of those before it
 abbrev Fresh : List (List ℕ) → List (List ℕ) → Type 0
 Fresh ms [] = Unit {0}
-Fresh ms (n ∷ ns) = (is_among ms n ≡ false) × Fresh (n ∷ ms) ns
+Fresh ms (n ∷ ns) = (is_among n ms ≡ false) × Fresh (n ∷ ms) ns
 
 new_fresh : (ms : List (List ℕ)) (xs : List Name) (ns : List (List ℕ)) → new_names ms xs ≡ Ok ns → Fresh ms ns
 new_fresh ms [] ns e = subst (Fresh ms) (ok_is (List (List ℕ)) _ _ e) tt
 new_fresh ms (x ∷ xs) ns e =
-    let f = failed (is_among ms x.text) (and_then (new_names (x.text ∷ ms) xs) (λ rs. Ok (x.text ∷ rs))) (already_declared x.span) ns e in
+    let f = failed (is_among x.text ms) (and_then (new_names (x.text ∷ ms) xs) (λ rs. Ok (x.text ∷ rs))) (already_declared x.span) ns e in
     let j = steps (new_names (x.text ∷ ms) xs) (λ rs. Ok (x.text ∷ rs)) ns f.1 in
     subst (Fresh ms) (ok_is (List (List ℕ)) _ _ j.2) (f.0, new_fresh (x.text ∷ ms) xs j.0 j.1)
 
 -- what is none of one list is none of another
 abbrev Fewer : List (List ℕ) → List (List ℕ) → Type 0
-Fewer ms ks = (n : List ℕ) → is_among ms n ≡ false → is_among ks n ≡ false
+Fewer ms ks = (n : List ℕ) → is_among n ms ≡ false → is_among n ks ≡ false
 
 fewer_more : (m : List ℕ) (ms ks : List (List ℕ)) → Fewer ms ks → Fewer (m ∷ ms) (m ∷ ks)
-fewer_more m ms ks f n = go (is_name m n)
+fewer_more m ms ks f n = go (is_name n m)
   where
-    go : (q : Bool) → (if q then true else is_among ms n) ≡ false → (if q then true else is_among ks n) ≡ false
+    go : (q : Bool) → (q || is_among n ms) ≡ false → (q || is_among n ks) ≡ false
     go true e = e
     go false e = f n e
 
 fewer_one : (m : List ℕ) (ms : List (List ℕ)) → Fewer (m ∷ ms) ms
-fewer_one m ms n = go (is_name m n)
+fewer_one m ms n = go (is_name n m)
   where
-    go : (q : Bool) → (if q then true else is_among ms n) ≡ false → is_among ms n ≡ false
+    go : (q : Bool) → (q || is_among n ms) ≡ false → is_among n ms ≡ false
     go true e = absurd (true≢false e)
     go false e = e
 
@@ -50,23 +92,23 @@ fresh_fewer : (ms ks ns : List (List ℕ)) → Fewer ms ks → Fresh ms ns → F
 fresh_fewer ms ks [] f h = tt
 fresh_fewer ms ks (n ∷ ns) f h = (f n h.0, fresh_fewer (n ∷ ms) (n ∷ ks) ns (fewer_more n ms ks f) h.1)
 
-among_here : (n : List ℕ) (ms : List (List ℕ)) → is_among (n ∷ ms) n ≡ true
-among_here n ms = ap (λ q. if q then true else is_among ms n) (own_name n)
+among_here : (n : List ℕ) (ms : List (List ℕ)) → is_among n (n ∷ ms) ≡ true
+among_here n ms = ap (λ q. q || is_among n ms) (own_name n)
 
-among_more : (m n : List ℕ) (ms : List (List ℕ)) → is_among ms n ≡ true → is_among (m ∷ ms) n ≡ true
-among_more m n ms h = go (is_name m n)
+among_more : (m n : List ℕ) (ms : List (List ℕ)) → is_among n ms ≡ true → is_among n (m ∷ ms) ≡ true
+among_more m n ms h = go (is_name n m)
   where
-    go : (q : Bool) → (if q then true else is_among ms n) ≡ true
+    go : (q : Bool) → (q || is_among n ms) ≡ true
     go true = refl
     go false = h
 
 -- ---- parameters
 
 -- a name that was there before is none of the new ones
-none_of : (s n : List ℕ) (ms ns : List (List ℕ)) → is_among ms n ≡ true → Fresh ms ns → IsNoParameter n (with_sort ns s)
+none_of : (s n : List ℕ) (ms ns : List (List ℕ)) → is_among n ms ≡ true → Fresh ms ns → IsNoParameter n (with_sort ns s)
 none_of s n ms [] a f = tt
 none_of s n ms (m ∷ ns) a f =
-    (λ e. true≢false (sym a ∙ sym (ap (is_among ms) e) ∙ f.0), none_of s n (m ∷ ms) ns (among_more m n ms a) f.1)
+    (λ e. true≢false (sym a ∙ sym (ap (λ n. is_among n ms) e) ∙ f.0), none_of s n (m ∷ ms) ns (among_more m n ms a) f.1)
 
 fresh_distinct : (s : List ℕ) (ms ns : List (List ℕ)) → Fresh ms ns → AreDistinct (with_sort ns s)
 fresh_distinct s ms [] f = tt

@@ -1,12 +1,24 @@
 -- What a name stands for: the newest variable or hypothesis of that name, else what is declared.
 use Rattle.std.specs.Prelude.{ℕ, suc, List, [], ◌∷◌, if◌then◌else◌, Option, Some, None}
 use Rattle.fol_theory.specs.Syntax.{is_name}
+use Rattle.fol_theory.specs.Contexts as context
+use Rattle.fol_theory.specs.Slots.{Slot}
 use Rattle.env_theory.specs.Declarations.{Declaration, find}
 
 -- a variable with its sort, or a hypothesis; a list of these has the newest first
 pub data Local : Type 0 where
   variable : List ℕ → List ℕ → Local
   hypothesis : List ℕ → Local
+
+-- an entry of a context with its name
+abbrev pub local_of : List ℕ → context.Entry → Local
+local_of n (context.variable s) = variable n s
+local_of n (context.hypothesis a) = hypothesis n
+
+-- the slots of a context as typing sees them
+abbrev pub locals_in : List Slot → List Local
+locals_in [] = []
+locals_in (x ∷ c) = local_of x.name x.entry ∷ locals_in c
 
 -- the sorts of the variables, the newest first
 abbrev pub sorts_in : List Local → List (List ℕ)

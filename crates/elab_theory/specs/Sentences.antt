@@ -1,5 +1,6 @@
 -- What a sentence declares or begins, or the first fault.
-use Rattle.std.specs.Prelude.{ℕ, Bool, true, false, List, [], ◌∷◌, ◌++◌, if◌then◌else◌, Option, Some, None, Result, Ok, Err}
+use Rattle.std.specs.Prelude.{ℕ, Bool, List, [], ◌∷◌, ◌++◌, if◌then◌else◌, Option, Some, None, Result, Ok, Err}
+use Rattle.std.specs.List.{list_any}
 use Rattle.vern_grammar.specs.Trees.{
   Name,
   Group,
@@ -88,14 +89,13 @@ shape_of E n (plain a) = shape_by E n (plain a) (last_of E (plain a))
 -- ---- definitions
 
 -- whether a name is among others
-abbrev pub is_among : List (List ℕ) → List ℕ → Bool
-is_among [] n = false
-is_among (m ∷ ms) n = if is_name m n then true else is_among ms n
+abbrev pub is_among : List ℕ → List (List ℕ) → Bool
+is_among n ms = list_any (is_name n) ms
 
 -- the names of a group, each new among those before it
 abbrev pub new_names : List (List ℕ) → List Name → Result (List (List ℕ)) Fault
 new_names ms [] = Ok []
-new_names ms (x ∷ xs) = if is_among ms x.text then Err (already_declared x.span) else and_then (new_names (x.text ∷ ms) xs)
+new_names ms (x ∷ xs) = if is_among x.text ms then Err (already_declared x.span) else and_then (new_names (x.text ∷ ms) xs)
     (λ ns. Ok (x.text ∷ ns))
 
 -- the names of parameters

@@ -2,3 +2,14 @@ pub mod Layered
 pub mod Looking
 pub mod Stacked
 pub mod Pushed
+pub mod Kept
+pub mod Applications
+pub mod Spreads
+pub mod Added
+pub mod Weighing
+pub mod Limits
+pub mod Formulas
+pub mod Sides
+pub mod Told
+pub mod Summing
+pub mod Results

@@ -7,21 +7,19 @@ use Rattle.std.specs.Arc.{arc_value}
 use Rattle.std.specs.Map.{lookup}
 use Rattle.indexmap.specs.IndexMap.{insert_entry}
 use Rattle.fol_theory.specs.Syntax.{is_name}
-use Rattle.env_theory.specs.Declarations.{Declaration, name_of, find}
-use Rattle.env_core.specs.declared.declaration.Decl.{Decl}
-use Rattle.env_core.specs.Meaning.{declaration, declarations}
-use Rattle.env_core.specs.Layers.{onto, AreKeyed, AreApart}
+use Rattle.env_core.specs.declared.entry.Entry.{Entry}
+use Rattle.env_core.specs.Layers.{entry_name, found, onto, AreKeyed, AreApart}
 use Rattle.env_core.proofs.Layered.{onto_joint, keyed_joint, looked_up}
 
-none_of : (o : Option (Arc Decl Global)) → option_map (λ a. declaration (arc_value a)) o ≡ None → o ≡ None
+none_of : (o : Option (Arc Entry Global)) → option_map (λ a. arc_value a) o ≡ None → o ≡ None
 none_of None h = refl
 none_of (Some a) h = absurd (impossible h)
   where
-    impossible : Some (declaration (arc_value a)) ≡ None → ⊥
+    impossible : Some (arc_value a) ≡ None → ⊥
     impossible h = cc
 
 -- a key that isn't there goes last
-last_entry : (ps : List (List ℕ × Arc Decl Global)) (k : List ℕ) (v : Arc Decl Global) → lookup (is_name k) ps ≡ None
+last_entry : (ps : List (List ℕ × Arc Entry Global)) (k : List ℕ) (v : Arc Entry Global) → lookup (is_name k) ps ≡ None
     → insert_entry is_name ps k v ≡ ps ++ ((k, v) ∷ [])
 last_entry [] k v h = refl
 last_entry (p ∷ ps) k v h = go (is_name k p.0) h (λ z. last_entry ps k v z)
@@ -35,21 +33,21 @@ last_entry (p ∷ ps) k v h = go (is_name k p.0) h (λ z. last_entry ps k v z)
     go true e f = absurd (impossible e)
     go false e f = ap (λ z. p ∷ z) (f e)
 
-module _ (ps new : List (List ℕ × Arc Decl Global)) (k : List ℕ) (v : Arc Decl Global) (d : Decl)
+module _ (ps new : List (List ℕ × Arc Entry Global)) (k : List ℕ) (v : Arc Entry Global) (d : Entry)
     (inserted : new ≡ insert_entry is_name ps k v)
-    (keyed : AreKeyed ps) (apart : AreApart (declarations (onto [] ps))) (named : k ≡ name_of (declaration d)) (shared : arc_value v ≡ d)
-    (free : find (declarations (onto [] ps)) (name_of (declaration d)) ≡ None) where
+    (keyed : AreKeyed ps) (apart : AreApart (onto [] ps)) (named : k ≡ entry_name d) (shared : arc_value v ≡ d)
+    (free : found (onto [] ps) (entry_name d) ≡ None) where
   entries_are : new ≡ ps ++ ((k, v) ∷ [])
   entries_are =
       inserted ∙ last_entry ps k v
-      (none_of (lookup (is_name k) ps) (looked_up [] ps k keyed apart refl ∙ ap (find (declarations (onto [] ps))) named ∙ free))
+      (none_of (lookup (is_name k) ps) (looked_up [] ps k keyed apart refl ∙ ap (found (onto [] ps)) named ∙ free))
 
   pub pushed_view : onto [] new ≡ d ∷ onto [] ps
   pushed_view = ap (onto []) entries_are ∙ onto_joint [] ps ((k, v) ∷ []) ∙ ap (λ z. z ∷ onto [] ps) shared
 
   pub pushed_keyed : AreKeyed new
   pushed_keyed = subst AreKeyed (sym entries_are)
-      (keyed_joint ps ((k, v) ∷ []) keyed (named ∙ ap (λ z. name_of (declaration z)) (sym shared), tt))
+      (keyed_joint ps ((k, v) ∷ []) keyed (named ∙ ap entry_name (sym shared), tt))
 
-  pub pushed_apart : AreApart (declarations (onto [] new))
-  pushed_apart = subst (λ ds. AreApart (declarations ds)) (sym pushed_view) (free, apart)
+  pub pushed_apart : AreApart (onto [] new)
+  pushed_apart = subst AreApart (sym pushed_view) (free, apart)

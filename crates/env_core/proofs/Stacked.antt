@@ -8,20 +8,17 @@ use Rattle.std.specs.declared.alloc.Global.{Global}
 use Rattle.std.specs.declared.sync.Arc.{Arc}
 use Rattle.std.specs.Arc.{arc_value}
 use Rattle.fol_theory.specs.Contexts.{IsFromLast}
-use Rattle.env_theory.specs.Declarations.{Declaration, name_of, find}
-use Rattle.env_theory.specs.Typing.{Environment}
-use Rattle.env_theory.proofs.Skips.{grown}
-use Rattle.env_core.specs.declared.declaration.Decl.{Decl}
-use Rattle.env_core.specs.Meaning.{declaration, declarations}
-use Rattle.env_core.specs.Layers.{AreApart, stacked}
-use Rattle.env_core.proofs.Layered.{declarations_joint, stacked_joint, stacked_behind, found_in_front, none_in_front, last_behind}
+use Rattle.env_core.specs.declared.entry.Entry.{Entry}
+use Rattle.env_core.specs.Layers.{entry_name, found, AreApart, stacked}
+use Rattle.env_core.proofs.Layered.{stacked_joint, stacked_behind, found_in_front, none_in_front, found_behind, last_behind}
 use Rattle.env_core.proofs.Layered.{last_in_front}
 use Rattle.env_core.proofs.Layered.{length_joint, front_apart, no_more}
 
 first_more : {X : Type 0} (xs : List X) (i : ℕ) (x : X) → i < length xs → x ≡ get_or xs i x → take (i + 1) xs ≡ take i xs ++ (x ∷ [])
 first_more xs i x h e = grind (arith, common_steps)
 
-module _ (ls : List (Arc (List Decl) Global)) (i : ℕ) (l : Arc (List Decl) Global) (within : i < length ls) (here : l ≡ get_or ls i l) where
+module _ (ls : List (Arc (List Entry) Global)) (i : ℕ) (l : Arc (List Entry) Global) (within : i < length ls) (here : l
+    ≡ get_or ls i l) where
   pub one_layer_more : stacked [] (take (i + 1) ls) ≡ arc_value l ++ stacked [] (take i ls)
   one_layer_more = ap (stacked []) (first_more ls i l within here) ∙ stacked_joint [] (take i ls) (l ∷ [])
 
@@ -32,40 +29,32 @@ module _ (ls : List (Arc (List Decl) Global)) (i : ℕ) (l : Arc (List Decl) Glo
       ∙ stacked_behind (stacked [] (take (i + 1) ls)) (drop (i + 1) ls)
       ∙ ap (λ z. stacked [] (drop (i + 1) ls) ++ z) one_layer_more
 
-  declared_with : declarations (stacked [] ls)
-      ≡ declarations (stacked [] (drop (i + 1) ls)) ++ (declarations (arc_value l) ++ declarations (stacked [] (take i ls)))
-  declared_with =
-      ap declarations with_layer ∙ declarations_joint (stacked [] (drop (i + 1) ls)) (arc_value l ++ stacked [] (take i ls))
-      ∙ ap (λ z. declarations (stacked [] (drop (i + 1) ls)) ++ z) (declarations_joint (arc_value l) (stacked [] (take i ls)))
-
   -- what a layer finds is found
-  pub layer_answers : {X : Type 0} (f : X → Declaration) (found : Option X) (n : List ℕ) → Environment (declarations (stacked [] ls))
-      → option_map f found ≡ find (declarations (arc_value l)) n → is_some found ≡ true
-      → option_map f found ≡ find (declarations (stacked [] ls)) n
-  layer_answers f None n x k s = absurd (impossible s)
+  pub layer_answers : {X : Type 0} (f : X → Entry) (x : Option X) (n : List ℕ) → AreApart (stacked [] ls)
+      → option_map f x ≡ found (arc_value l) n → is_some x ≡ true
+      → option_map f x ≡ found (stacked [] ls) n
+  layer_answers f None n a k s = absurd (impossible s)
     where
       impossible : false ≡ true → ⊥
       impossible h = cc
-  layer_answers f (Some y) n x k s =
-      sym (ap (λ E. find E n) declared_with
-      ∙ grown (declarations (stacked [] (drop (i + 1) ls))) (declarations (arc_value l) ++ declarations (stacked [] (take i ls)))
-      (subst Environment declared_with x) n (f y)
-      (found_in_front (declarations (arc_value l)) (declarations (stacked [] (take i ls))) n (f y) (sym k)))
+  layer_answers f (Some y) n a k s =
+      sym (ap (λ es. found es n) with_layer
+      ∙ found_behind (stacked [] (drop (i + 1) ls)) (arc_value l ++ stacked [] (take i ls)) (subst AreApart with_layer a) n (f y)
+      (found_in_front (arc_value l) (stacked [] (take i ls)) n (f y) (sym k)))
 
   -- a name that it doesn't find is looked for further on
-  pub layer_passed : {X : Type 0} (f : X → Declaration) (found : Option X) (n : List ℕ)
-      → option_map f found ≡ find (declarations (arc_value l)) n → is_some found ≡ false
-      → find (declarations (stacked [] (take i ls))) n ≡ None → find (declarations (stacked [] (take (i + 1) ls))) n ≡ None
+  pub layer_passed : {X : Type 0} (f : X → Entry) (x : Option X) (n : List ℕ)
+      → option_map f x ≡ found (arc_value l) n → is_some x ≡ false
+      → found (stacked [] (take i ls)) n ≡ None → found (stacked [] (take (i + 1) ls)) n ≡ None
   layer_passed f None n k s p =
-      ap (λ ds. find (declarations ds) n) one_layer_more ∙ ap (λ E. find E n) (declarations_joint (arc_value l) (stacked [] (take i ls)))
-      ∙ none_in_front (declarations (arc_value l)) (declarations (stacked [] (take i ls))) n (sym k) ∙ p
+      ap (λ es. found es n) one_layer_more ∙ none_in_front (arc_value l) (stacked [] (take i ls)) n (sym k) ∙ p
   layer_passed f (Some y) n k s p = absurd (impossible s)
     where
       impossible : true ≡ false → ⊥
       impossible h = cc
 
-  -- a declaration by its number
-  pub layer_has : (left number : ℕ) → left + length (stacked [] (take i ls)) ≡ number → (x : Decl) → IsFromLast (arc_value l) left x
+  -- an entry by its number
+  pub layer_has : (left number : ℕ) → left + length (stacked [] (take i ls)) ≡ number → (x : Entry) → IsFromLast (arc_value l) left x
       → IsFromLast (stacked [] ls) number x
   layer_has left number p x f =
       subst (λ ds. IsFromLast ds number x) (sym with_layer)
@@ -110,27 +99,27 @@ all_of_it xs ys i h =
     let none : length xs - i ≡ zero = omega (arith, h) in
     ap (λ n. drop n xs ++ ys) none
 
--- where names are apart, the next declaration has a new one
-pub next_is_new : (xs ys : List Decl) (i : ℕ) (x : Decl) → IsFromLast xs i x → AreApart (declarations (xs ++ ys))
-    → find (declarations (drop (length xs - i) xs ++ ys)) (name_of (declaration x)) ≡ None
+-- where names are apart, the next entry has a new one
+pub next_is_new : (xs ys : List Entry) (i : ℕ) (x : Entry) → IsFromLast xs i x → AreApart (xs ++ ys)
+    → found (drop (length xs - i) xs ++ ys) (entry_name x) ≡ None
 next_is_new [] ys i x h a = absurd h
 next_is_new (y ∷ xs) ys i x (inl h) a =
     let one : length (y ∷ xs) - i ≡ suc zero = omega (arith, h.0) in
-    ap (λ n. find (declarations (drop n (y ∷ xs) ++ ys)) (name_of (declaration x))) one
-    ∙ ap (λ z. find (declarations (xs ++ ys)) (name_of (declaration z))) h.1 ∙ a.0
+    ap (λ n. found (drop n (y ∷ xs) ++ ys) (entry_name x)) one
+    ∙ ap (λ z. found (xs ++ ys) (entry_name z)) h.1 ∙ a.0
 next_is_new (y ∷ xs) ys i x (inr h) a =
     let more : length (y ∷ xs) - i ≡ suc (length xs - i) = omega (arith, from_last_below xs i x h) in
-    ap (λ n. find (declarations (drop n (y ∷ xs) ++ ys)) (name_of (declaration x))) more ∙ next_is_new xs ys i x h a.1
+    ap (λ n. found (drop n (y ∷ xs) ++ ys) (entry_name x)) more ∙ next_is_new xs ys i x h a.1
 
--- one declaration more of those that are put before others
-pub next_put : (xs ys : List Decl) (i : ℕ) (x : Decl) (old new : List Decl) → IsFromLast xs i x → old ≡ drop (length xs - i) xs ++ ys
+-- one entry more of those that are put before others
+pub next_put : (xs ys : List Entry) (i : ℕ) (x : Entry) (old new : List Entry) → IsFromLast xs i x → old ≡ drop (length xs - i) xs ++ ys
     → new ≡ x ∷ old
     → new ≡ drop (length xs - (i + 1)) xs ++ ys
 next_put xs ys i x old new h e k = k ∙ ap (λ z. x ∷ z) e ∙ sym (ap (λ z. z ++ ys) (one_more_of xs i x h))
 
 -- ---- copies of layers
 
-pub layer_copied : (ls ms ns : List (Arc (List Decl) Global)) (i : ℕ) (l m : Arc (List Decl) Global) → ns ≡ ms ++ (m ∷ [])
+pub layer_copied : (ls ms ns : List (Arc (List Entry) Global)) (i : ℕ) (l m : Arc (List Entry) Global) → ns ≡ ms ++ (m ∷ [])
     → arc_value m ≡ arc_value l
     → stacked [] ms ≡ stacked [] (take i ls) → i < length ls → l ≡ get_or ls i l → stacked [] ns ≡ stacked [] (take (i + 1) ls)
 layer_copied ls ms ns i l m k v h within here =
@@ -139,38 +128,39 @@ layer_copied ls ms ns i l m k v h within here =
 -- ---- layers put together
 
 -- the last of the layers that stay
-pub last_layer : (ls : List (Arc (List Decl) Global)) (n : ℕ) (l : Arc (List Decl) Global) → 0 < n → n ≤ length ls → l ≡ get_or ls (n - 1) l
+pub last_layer : (ls : List (Arc (List Entry) Global)) (n : ℕ) (l : Arc (List Entry) Global) → 0 < n → n ≤ length ls → l
+    ≡ get_or ls (n - 1) l
     → stacked [] (take n ls) ≡ arc_value l ++ stacked [] (take (n - 1) ls)
 last_layer ls n l some within here =
     let e : (n - 1) + 1 ≡ n = omega (arith, some) in
     ap (λ m. stacked [] (take m ls)) (sym e) ∙ one_layer_more ls (n - 1) l (omega (arith, some, within)) here
 
 -- it may go under the newest
-pub may_go_under : (ls : List (Arc (List Decl) Global)) (n : ℕ) (l : Arc (List Decl) Global) (newest whole : List Decl) → 0 < n
+pub may_go_under : (ls : List (Arc (List Entry) Global)) (n : ℕ) (l : Arc (List Entry) Global) (newest whole : List Entry) → 0 < n
     → n ≤ length ls
-    → l ≡ get_or ls (n - 1) l → newest ++ stacked [] (take n ls) ≡ whole → AreApart (declarations whole)
-    → AreApart (declarations (newest ++ (arc_value l ++ [])))
+    → l ≡ get_or ls (n - 1) l → newest ++ stacked [] (take n ls) ≡ whole → AreApart whole
+    → AreApart (newest ++ (arc_value l ++ []))
 may_go_under ls n l newest whole some within here e a =
     let s = ap (λ z. newest ++ z) (last_layer ls n l some within here)
     ∙ sym (append_assoc newest (arc_value l) (stacked [] (take (n - 1) ls))) in
-    let d = declarations_joint (newest ++ arc_value l) (stacked [] (take (n - 1) ls)) in
-    subst (λ ds. AreApart (declarations (newest ++ ds))) (sym (no_more (arc_value l)))
-    (front_apart (declarations (newest ++ arc_value l)) (declarations (stacked [] (take (n - 1) ls)))
-    (subst AreApart (ap declarations (sym e ∙ s) ∙ d) a))
+    subst (λ ds. AreApart (newest ++ ds)) (sym (no_more (arc_value l)))
+    (front_apart (newest ++ arc_value l) (stacked [] (take (n - 1) ls))
+    (subst AreApart (sym e ∙ s) a))
 
 -- the layer alone has names apart
-pub is_apart : (ls : List (Arc (List Decl) Global)) (n : ℕ) (l : Arc (List Decl) Global) (newest whole : List Decl) → 0 < n → n ≤ length ls
-    → l ≡ get_or ls (n - 1) l → newest ++ stacked [] (take n ls) ≡ whole → AreApart (declarations whole)
-    → AreApart (declarations (arc_value l ++ []))
-is_apart ls n l newest whole some within here e a = behind (declarations newest) (declarations (arc_value l ++ []))
-    (subst AreApart (declarations_joint newest (arc_value l ++ [])) (may_go_under ls n l newest whole some within here e a))
+pub is_apart : (ls : List (Arc (List Entry) Global)) (n : ℕ) (l : Arc (List Entry) Global) (newest whole : List Entry) → 0 < n
+    → n ≤ length ls
+    → l ≡ get_or ls (n - 1) l → newest ++ stacked [] (take n ls) ≡ whole → AreApart whole
+    → AreApart (arc_value l ++ [])
+is_apart ls n l newest whole some within here e a = behind newest (arc_value l ++ [])
+    (may_go_under ls n l newest whole some within here e a)
   where
-    behind : (G E : List Declaration) → AreApart (G ++ E) → AreApart E
+    behind : (G E : List Entry) → AreApart (G ++ E) → AreApart E
     behind [] E h = h
     behind (g ∷ G) E h = behind G E h.1
 
 -- with it the whole is as it was
-pub gone_under : (ls : List (Arc (List Decl) Global)) (n : ℕ) (l : Arc (List Decl) Global) (newest first new whole : List Decl) → 0 < n
+pub gone_under : (ls : List (Arc (List Entry) Global)) (n : ℕ) (l : Arc (List Entry) Global) (newest first new whole : List Entry) → 0 < n
     → n ≤ length ls
     → l ≡ get_or ls (n - 1) l → newest ++ stacked [] (take n ls) ≡ whole → first ≡ arc_value l ++ [] → new ≡ newest ++ first
     → new ++ stacked [] (take (n - 1) ls) ≡ whole
@@ -180,7 +170,7 @@ gone_under ls n l newest first new whole some within here e f g =
     ∙ e
 
 -- the layers that stay, and the newest behind them
-pub put_on : (ls new : List (Arc (List Decl) Global)) (n : ℕ) (a : Arc (List Decl) Global) (newest whole : List Decl)
+pub put_on : (ls new : List (Arc (List Entry) Global)) (n : ℕ) (a : Arc (List Entry) Global) (newest whole : List Entry)
     → new ≡ take n ls ++ (a ∷ [])
     → arc_value a ≡ newest → newest ++ stacked [] (take n ls) ≡ whole → stacked [] new ≡ whole
 put_on ls new n a newest whole k v e =

@@ -1,2 +1,5 @@
 pub mod Meaning
 pub mod Layers
+pub mod Rows
+pub mod Weights
+pub mod Summaries

@@ -7,6 +7,7 @@ use Rattle.env_core.specs.declared.declaration.Parameter.{Parameter}
 use Rattle.env_core.specs.declared.declaration.Decl.{Decl}
 use Rattle.env_core.specs.declared.declaration.Decl.TheVariants.{Sort, Fun, Pred, Stated, DefFun, DefPred}
 
+-- the parameter that one stands for
 abbrev pub parameter : Parameter → theory.Parameter
 parameter p = record { name = p.name; sort = p.sort }
 

@@ -1,32 +1,37 @@
 //! Environments.
-ghost use Rattle.std.specs.Prelude.{◌≡◌, ◌<◌, ◌≤◌, [], ◌∷◌, ◌++◌, length, take, None, option_map, IfOk, OnOk, OnErr};
+ghost use Rattle.std.specs.Prelude.{◌≡◌, ◌<◌, ◌^◌, ℕ, List, [], ◌∷◌, length, min, None, option_map, MatchOption, IfOk, OnOk, OnErr};
+ghost use Rattle.term_core.specs.Term as term;
+ghost use Rattle.term_core.specs.Formula as formula;
+ghost use Rattle.fol_theory.specs.Measures.{nodes, height, term_nodes, term_height};
 ghost use Rattle.fol_theory.specs.Contexts.{IsFromLast};
 ghost use Rattle.env_theory.specs.Declarations.{find, name_of};
-ghost use Rattle.env_theory.specs.Typing.{Declares, Environment};
-ghost use Rattle.std.specs.Arc.{arc_value};
+ghost use Rattle.env_theory.specs.Typing.{Declares, Environment, HasSort, WellFormed};
+ghost use Rattle.env_theory.specs.Normal.{normal, normal_term};
+ghost use Rattle.env_theory.specs.Machine.{term_body, formula_body};
+ghost use Rattle.env_theory.specs.Count.{Table, row};
 ghost use Rattle.env_core.specs.Meaning.{declaration, declarations};
-ghost use Rattle.env_core.specs.Layers.{AreApart, stacked};
+ghost use Rattle.env_core.specs.Rows.{SameRow, nodes_row, height_row, nodes_table, height_table};
+ghost use Rattle.env_core.specs.Summaries.{Projects};
 
 use crate::declaration::Decl;
-use crate::layer::Layer;
+use crate::entries::Entries;
+use crate::entry::{Definition, Entry};
+use crate::sizes::{Weights, formula_tally, term_tally};
+use crate::summary::{Summary, summary_of};
+use crate::tally::Tally;
 use base_core::NoMemory;
 use std::alloc::Global;
 use std::marker::Model;
-use std::sync::Arc;
-use term_core::Name;
+use term_core::{Formula, Name, Term};
 
 /// An environment. Contracts see the list of its declarations, the newest first.
-///
-/// The layers that keep them, the oldest first, have as many declarations as there are ones in the binary form of
-/// `len`: each is a power of two, and no two are as long.
 #[derive(Drop)]
 pub struct Env {
-    layers: Vec<Arc<Layer>>,
-    len: u64,
+    entries: Entries,
 }
 
 impl Model for Env {
-    ghost use Rattle.std.specs.Prelude.{◌≡◌, List, [], length};
+    ghost use Rattle.std.specs.Prelude.{List};
     ghost use Rattle.std.specs.Coded.{codes};
     ghost use Rattle.term_core.specs.contracts.formula.Formula as formula;
     ghost use Rattle.term_core.specs.contracts.term.Term as term;
@@ -38,11 +43,12 @@ impl Model for Env {
 
     ghost use Rattle.env_theory.specs.Typing.{Environment};
     ghost use Rattle.env_core.specs.Meaning.{declarations};
-    ghost use Rattle.env_core.specs.Layers.{stacked};
+    ghost use Rattle.env_core.specs.Layers.{decls};
+    ghost use Rattle.env_core.specs.Summaries.{AreSummed};
 
-    ghost view = { λ e. stacked [] e.layers.items };
+    ghost view = { λ e. decls e.entries };
 
-    ghost invariant = { λ e. Environment (declarations (stacked [] e.layers.items)) × (e.len ≡ length (stacked [] e.layers.items)) };
+    ghost invariant = { λ e. Environment (declarations (decls e.entries)) × AreSummed e.entries };
 }
 
 impl Env {
@@ -51,63 +57,48 @@ impl Env {
         ensures { result ≡ [] }
     {
         Env {
-            layers: Vec::new(alloc),
-            len: 0,
+            entries: Entries::new(alloc),
         }
     }
 
     /// How many declarations there are.
+    #[tactic(auto, using(crate::proofs::Kept::keeping))]
     pub fn len(&self) -> u64
         ensures { result ≡ length self.now }
     {
-        self.len
+        self.entries.len()
     }
 
     /// The declaration of a name, or None exactly where none has it.
+    #[tactic(auto, using(crate::proofs::Kept::keeping))]
     pub fn find(&self, name: &Name) -> Option<&Decl>
         ensures { option_map (λ d. declaration d.now) result ≡ find (declarations self.now) name.now }
     {
-        for layer in &self.layers {
-            let found = layer.find(name);
-            if found.is_some() {
-                return found;
-            }
+        match self.entries.find(name) {
+            None => None,
+            Some(entry) => Some(&entry.decl),
         }
-        None
     }
 
     /// A declaration by its number, from 0 in the order in which they were added.
+    #[tactic(auto, using(crate::proofs::Kept::keeping))]
     pub fn at(&self, number: u64) -> &Decl
         requires { number < length self.now }
         ensures { IsFromLast self.now number result.now }
     {
-        let mut left = number;
-        for layer in &self.layers {
-            let here = layer.len() as u64;
-            if left < here {
-                return layer.at(left as usize);
-            }
-            left -= here;
-        }
-        unreachable!()
+        &self.entries.at(number).decl
     }
 
     /// One declaration more, the newest. On `NoMemory` the environment is as it was; so it is where there are 2^64 - 1.
+    #[tactic(auto, using(crate::proofs::Kept::keeping))]
     pub fn add(&mut self, decl: Decl) -> Result<(), NoMemory>
         requires new { find (declarations self.old) (name_of (declaration decl)) ≡ None }
         requires declares { Declares (declarations self.old) (declaration decl) }
         ensures ok { OnOk result (self.new ≡ decl ∷ self.old) }
         ensures err { OnErr result (self.new ≡ self.old) }
     {
-        let alloc = *self.layers.allocator();
-        if self.len == u64::MAX {
-            return Err(NoMemory);
-        }
-        let mut newest = Layer::new(alloc);
-        newest.push(&Arc::new(alloc, decl)?)?;
-        let kept = gathered(alloc, &self.layers, &mut newest)?;
-        put_behind(&mut self.layers, kept, Arc::new(alloc, newest)?)?;
-        self.len += 1;
+        let summary = summary_of(self.entries.allocator(), self, &decl)?;
+        self.entries.push(Entry { decl, summary })?;
         Ok(())
     }
 
@@ -115,45 +106,73 @@ impl Env {
     pub fn snapshot(&self) -> Result<Env, NoMemory>
         ensures { IfOk result (λ copy. copy ≡ self.now) }
     {
-        let mut layers = Vec::with_capacity(*self.layers.allocator(), self.layers.len())?;
-        for layer in &self.layers {
-            layers.push(Arc::try_clone(layer)?)?;
-        }
         Ok(Env {
-            layers,
-            len: self.len,
+            entries: self.entries.snapshot()?,
         })
     }
-}
 
-/// Puts layers that are as long as the newest under it, and tells how many stay.
-fn gathered(alloc: Global, layers: &[Arc<Layer>], newest: &mut Layer) -> Result<usize, NoMemory>
-    requires { AreApart (declarations (newest.old ++ stacked [] layers.now)) }
-    ensures within { IfOk result (λ kept. kept ≤ length layers.now) }
-    ensures whole { IfOk result (λ kept. newest.new ++ stacked [] (take kept layers.now) ≡ newest.old ++ stacked [] layers.now) }
-{
-    let mut kept = layers.len();
-    while kept > 0 && layers[kept - 1].len() == newest.len() {
-        let mut whole = Layer::new(alloc);
-        whole.extend(&layers[kept - 1])?;
-        whole.extend(newest)?;
-        *newest = whole;
-        kept -= 1;
+    /// A function's definition, or None exactly where the name has none.
+    pub fn definition(&self, name: &Name) -> Option<Definition<'_>>
+        ensures body { option_map (λ d. term.meaning d.body.now) result ≡ term_body (find (declarations self.now) name.now) }
+        ensures parameter { MatchOption result (Unit {0}) (λ d. Projects (declarations self.now) (term.meaning d.body.now) d.projects) }
+    {
+        match self.entries.find(name) {
+            None => None,
+            Some(entry) => entry.definition(),
+        }
     }
-    Ok(kept)
-}
 
-/// Puts a layer behind the first so many, in number of the others.
-fn put_behind(layers: &mut Vec<Arc<Layer>>, kept: usize, layer: Arc<Layer>) -> Result<(), NoMemory>
-    requires { kept ≤ length layers.old.items }
-    ensures ok { OnOk result (layers.new.items ≡ take kept layers.old.items ++ layer ∷ []) }
-    ensures err { OnErr result (layers.new.items ≡ layers.old.items) }
-{
-    if kept < layers.len() {
-        layers[kept] = layer;
-        layers.truncate(kept + 1);
-    } else {
-        layers.push(layer)?;
+    /// The body of a predicate's definition, or None exactly where the name has none.
+    pub fn predicate_body(&self, name: &Name) -> Option<&Formula>
+        ensures { option_map (λ b. formula.meaning b.now) result ≡ formula_body (find (declarations self.now) name.now) }
+    {
+        match self.find(name) {
+            Some(Decl::DefPred { body, .. }) => Some(body),
+            _ => None,
+        }
     }
-    Ok(())
+
+    /// How many nodes the normal form of a term has, and how high it is, each up to 2^32. It isn't made.
+    pub fn term_size(&self, t: &Term) -> Tally
+        requires { (V : List (List ℕ)) × (s : List ℕ) × HasSort (declarations self.now) V (term.meaning t.now) s }
+        ensures environment { Environment (declarations self.now) }
+        ensures nodes { result.nodes ≡ min (term_nodes (normal_term (declarations self.now) (term.meaning t.now))) (2 ^ 32) }
+        ensures height { result.height ≡ min (term_height (normal_term (declarations self.now) (term.meaning t.now))) (2 ^ 32) }
+    {
+        let _ = &self.entries;
+        term_tally(self, Weights::Each, t)
+    }
+
+    /// How many nodes the normal form of a formula has, and how high it is, each up to 2^32. It isn't made.
+    pub fn formula_size(&self, a: &Formula) -> Result<Tally, NoMemory>
+        requires { (V : List (List ℕ)) × WellFormed (declarations self.now) V (formula.meaning a.now) }
+        ensures environment { Environment (declarations self.now) }
+        ensures nodes { IfOk result (λ r. r.nodes ≡ min (nodes (normal (declarations self.now) (formula.meaning a.now))) (2 ^ 32)) }
+        ensures height { IfOk result (λ r. r.height ≡ min (height (normal (declarations self.now) (formula.meaning a.now))) (2 ^ 32)) }
+    {
+        let _ = &self.entries;
+        formula_tally(self, Weights::Each, a)
+    }
+
+    /// The summary of a function's definition.
+    pub(crate) fn function(&self, name: &Name) -> Option<&Summary>
+        ensures nodes { SameRow (option_map (λ s. nodes_row s.now) result) (row (Table.functions (nodes_table self.now)) name.now) }
+        ensures height { SameRow (option_map (λ s. height_row s.now) result) (row (Table.functions (height_table self.now)) name.now) }
+    {
+        match self.entries.find(name) {
+            None => None,
+            Some(entry) => entry.function(),
+        }
+    }
+
+    /// The summary of a predicate's definition.
+    pub(crate) fn predicate(&self, name: &Name) -> Option<&Summary>
+        ensures nodes { SameRow (option_map (λ s. nodes_row s.now) result) (row (Table.predicates (nodes_table self.now)) name.now) }
+        ensures height { SameRow (option_map (λ s. height_row s.now) result) (row (Table.predicates (height_table self.now)) name.now) }
+    {
+        match self.entries.find(name) {
+            None => None,
+            Some(entry) => entry.predicate(),
+        }
+    }
 }

@@ -1,12 +1,10 @@
-//! A layer of declarations.
+//! A layer of entries.
 ghost use Rattle.std.specs.Prelude.{◌≡◌, ◌<◌, ◌^◌, ℕ, [], ◌∷◌, ◌++◌, List, length, None, option_map, IfOk, OnOk, OnErr};
 ghost use Rattle.fol_theory.specs.Contexts.{IsFromLast};
-ghost use Rattle.env_theory.specs.Declarations.{Declaration, find, name_of};
 ghost use Rattle.std.specs.Arc.{arc_value};
-ghost use Rattle.env_core.specs.Meaning.{declaration, declarations};
-ghost use Rattle.env_core.specs.Layers.{AreApart};
+ghost use Rattle.env_core.specs.Layers.{entry_name, found, AreApart};
 
-use crate::declaration::Decl;
+use crate::entry::Entry;
 use base_core::NoMemory;
 use indexmap::IndexMap;
 use std::alloc::Global;
@@ -14,10 +12,10 @@ use std::marker::Model;
 use std::sync::Arc;
 use term_core::Name;
 
-/// Declarations with names of their own, found by name. Contracts see the list of them, the newest first.
+/// Entries with names of their own, found by name. Contracts see the list of them, the newest first.
 #[derive(Drop)]
 pub struct Layer {
-    by_name: IndexMap<Name, Arc<Decl>>,
+    by_name: IndexMap<Name, Arc<Entry>>,
 }
 
 impl Model for Layer {
@@ -25,22 +23,21 @@ impl Model for Layer {
     ghost use Rattle.std.specs.Coded.{codes};
     ghost use Rattle.term_core.specs.contracts.formula.Formula as formula;
     ghost use Rattle.term_core.specs.contracts.term.Term as term;
-    ghost use Rattle.env_core.specs.declared.declaration.Decl.{Decl};
+    ghost use Rattle.env_core.specs.declared.entry.Entry.{Entry};
 
-    ghost Value = { List Decl };
+    ghost Value = { List Entry };
 
     ghost coded = { Prim.hlevel (codes, formula.the_row.coded, term.the_row.coded) };
 
-    ghost use Rattle.env_core.specs.Meaning.{declarations};
     ghost use Rattle.env_core.specs.Layers.{onto, AreKeyed, AreApart};
 
     ghost view = { λ l. onto [] l.by_name.entries };
 
-    ghost invariant = { λ l. AreKeyed l.by_name.entries × AreApart (declarations (onto [] l.by_name.entries)) };
+    ghost invariant = { λ l. AreKeyed l.by_name.entries × AreApart (onto [] l.by_name.entries) };
 }
 
 impl Layer {
-    /// No declarations.
+    /// No entries.
     pub fn new(alloc: Global) -> Layer
         ensures { result ≡ [] }
     {
@@ -49,18 +46,18 @@ impl Layer {
         }
     }
 
-    /// One declaration more.
-    pub fn push(&mut self, decl: &Arc<Decl>) -> Result<(), NoMemory>
-        requires { find (declarations self.old) (name_of (declaration (arc_value decl.now))) ≡ None }
-        ensures ok { OnOk result (self.new ≡ arc_value decl.now ∷ self.old) }
+    /// One entry more.
+    pub fn push(&mut self, entry: &Arc<Entry>) -> Result<(), NoMemory>
+        requires { found self.old (entry_name (arc_value entry.now)) ≡ None }
+        ensures ok { OnOk result (self.new ≡ arc_value entry.now ∷ self.old) }
         ensures err { OnErr result (self.new ≡ self.old) }
     {
-        let shared = Arc::try_clone(decl)?;
-        self.by_name.insert(decl.name().copy()?, shared)?;
+        let shared = Arc::try_clone(entry)?;
+        self.by_name.insert(entry.decl.name().copy()?, shared)?;
         Ok(())
     }
 
-    /// How many declarations there are.
+    /// How many entries there are.
     #[tactic(auto, using(crate::proofs::Looking::places))]
     pub fn len(&self) -> usize
         ensures { result ≡ length self.now }
@@ -68,9 +65,9 @@ impl Layer {
         self.by_name.len()
     }
 
-    /// The declarations of another layer, before those that are there.
+    /// The entries of another layer, before those that are there.
     pub fn extend(&mut self, newer: &Layer) -> Result<(), NoMemory>
-        requires { AreApart (declarations (newer.now ++ self.old)) }
+        requires { AreApart (newer.now ++ self.old) }
         ensures { OnOk result (self.new ≡ newer.now ++ self.old) }
     {
         for number in 0..newer.len() {
@@ -79,25 +76,25 @@ impl Layer {
         Ok(())
     }
 
-    /// The declaration of a name.
+    /// The entry of a name.
     #[tactic(auto, using(crate::proofs::Looking::looking))]
-    pub fn find(&self, name: &Name) -> Option<&Decl>
-        ensures { option_map (λ d. declaration d.now) result ≡ find (declarations self.now) name.now }
+    pub fn find(&self, name: &Name) -> Option<&Entry>
+        ensures { option_map (λ e. e.now) result ≡ found self.now name.now }
     {
         match self.by_name.get(name) {
             None => None,
-            Some(decl) => Some(decl),
+            Some(entry) => Some(entry),
         }
     }
 
-    /// The declaration with so many older ones.
+    /// The entry with so many older ones.
     #[tactic(auto, using(crate::proofs::Looking::places))]
-    pub fn at(&self, number: usize) -> &Arc<Decl>
+    pub fn at(&self, number: usize) -> &Arc<Entry>
         requires { number < length self.now }
         ensures { IsFromLast self.now number (arc_value result.now) }
     {
         match self.by_name.get_index(number) {
-            Some((_, decl)) => decl,
+            Some((_, entry)) => entry,
             None => unreachable!(),
         }
     }

@@ -7,10 +7,18 @@
 #![tactic(auto)]
 
 mod declaration;
+mod entries;
+mod entry;
 mod env;
 mod layer;
+mod sizes;
+mod summary;
+mod tally;
 #[cfg(test)]
 mod tests;
+mod uses;
 
 pub use declaration::{Decl, Parameter, Params};
+pub use entry::Definition;
 pub use env::Env;
+pub use tally::Tally;

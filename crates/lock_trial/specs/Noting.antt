@@ -2,13 +2,11 @@
 use Rattle.std.specs.Prelude.{◌≡◌, ℕ, ◌+◌, ◌<◌, false, List, [], length, map, slice_index_or, Result, MatchResult}
 use Rattle.std.specs.List.{range_with_len}
 use Rattle.doc_lock.specs.Lists.{only}
-use Rattle.doc_lock.specs.Told.{IsOf, knows}
+use Rattle.doc_lock.specs.Parties.{Lock, Sitting}
+use Rattle.doc_lock.specs.Told.{IsOf}
 use Rattle.doc_lock.specs.declared.view.View.{View}
-use Rattle.doc_lock.specs.declared.lock.SeatOf.{SeatOf}
-use Rattle.doc_lock.specs.declared.lock.DocLock.{DocLock}
 use Rattle.base_core.specs.declared.no_memory.NoMemory.{NoMemory}
 use Rattle.lock_trial.specs.declared.notes.Note.{Note}
-use Rattle.lock_trial.specs.declared.notes.Notes.{Notes}
 use Rattle.lock_trial.specs.declared.threads.Writer.{Writer}
 
 -- what a seat wrote
@@ -28,10 +26,10 @@ module _ {E O : Type 0} where
   abbrev pub Keeps : View E O → View E O → Type 0
   Keeps v w = (w.number ≡ v.number) × (w.holds ≡ v.holds) × (w.made ≡ v.made) × (w.joined ≡ v.joined) × (w.origin ≡ v.origin)
 
-module _ {S E O : Type 0} where
+module _ {E O : Type 0} where
   -- the seat is one of this lock, has this number and holds nothing
-  abbrev pub IsIdle : DocLock S E O → ℕ → SeatOf S E O → Type 0
-  IsIdle l n s = IsOf l s × ((knows s).number ≡ n) × ((knows s).holds ≡ false)
+  abbrev pub IsIdle : Lock → ℕ → Sitting E O → Type 0
+  IsIdle l n s = IsOf l s × (s.view.number ≡ n) × (s.view.holds ≡ false)
 
 module _ {O : Type 0} where
   -- the seat has made no entry, and none was joined into it
@@ -43,17 +41,13 @@ module _ {O : Type 0} where
   HasWritten most wrote v = MatchResult wrote (λ _. v.mine ≡ notes_by v.number most) (λ _. (n : ℕ) × (n < most)
       × (v.mine ≡ notes_by v.number n))
 
--- a lock over notes
-abbrev pub Lock : Type 0
-Lock = DocLock Notes Note ℕ
-
 -- the writer of this number hasn't begun
 abbrev pub IsReady : Lock → ℕ → Writer → Type 0
-IsReady l n w = IsIdle l n w.seat × IsFresh (knows w.seat)
+IsReady l n w = IsIdle l n w.seat × IsFresh w.seat.view
 
 -- the writer of this number has ended
 abbrev pub IsDone : ℕ → Lock → ℕ → Writer → Type 0
-IsDone most l n w = IsIdle l n w.seat × HasWritten most w.wrote (knows w.seat) × ((knows w.seat).joined ≡ [])
+IsDone most l n w = IsIdle l n w.seat × HasWritten most w.wrote w.seat.view × (w.seat.view.joined ≡ [])
 
 -- P of each writer, by the number of its seat: they are 1, 2 and so on
 abbrev pub EachWriter : (ℕ → Writer → Type 0) → List Writer → Type 0

@@ -1,7 +1,7 @@
 //! Real threads, and one thread at two seats.
 ghost use Rattle.std.specs.Prelude.{◌≡◌, ℕ, ◌+◌, ◌*◌, ◌<◌, ◌≤◌, [], false};
 ghost use Rattle.std.specs.Thread.{IsSync};
-ghost use Rattle.doc_lock.specs.Told.{Covers, knows};
+ghost use Rattle.doc_lock.specs.Told.{Covers};
 ghost use Rattle.lock_trial.specs.Noting.{IsIdle, Keeps};
 
 use crate::{Notes, try_note, write_beside, write_note};
@@ -50,9 +50,9 @@ fn one_thread_at_two_seats_finds_the_notes_of_both(rt: HostRuntime) -> Result<()
 
 // The two seats write in turn: each rests until the other has written.
 fn rally<R: Wait>(rt: &R, lock: &DocLock<Notes>, seat: &mut Seat<Notes>, second: bool)
-    requires { IsIdle lock.now (knows seat.old).number seat.old }
-    ensures idle { IsIdle lock.now (knows seat.old).number seat.new }
-    ensures same { Keeps (knows seat.old) (knows seat.new) }
+    requires { IsIdle lock.now seat.old.view.number seat.old }
+    ensures idle { IsIdle lock.now seat.old.view.number seat.new }
+    ensures same { Keeps seat.old.view seat.new.view }
 {
     for round in 0..200u64 {
         if second {
@@ -75,8 +75,8 @@ fn rally_beside<'a, 'b, R: Threads + Wait + Sync>(
 )
     requires first { IsIdle lock.now 0 first.old }
     requires second { IsIdle lock.now 1 second.old }
-    ensures first { (IsIdle lock.now 0 first.new) × Keeps (knows first.old) (knows first.new) }
-    ensures second { (IsIdle lock.now 1 second.new) × Keeps (knows second.old) (knows second.new) }
+    ensures first { (IsIdle lock.now 0 first.new) × Keeps first.old.view first.new.view }
+    ensures second { (IsIdle lock.now 1 second.new) × Keeps second.old.view second.new.view }
 {
     join_mut(
         rt,

@@ -2,7 +2,7 @@
 ghost use Rattle.std.specs.Prelude.{◌≡◌, ℕ, ◌+◌, ◌<◌, ◌≤◌, [], ◌++◌, false, vec_len, vec_capacity, IfOk, MatchResult};
 ghost use Rattle.std.specs.Thread.{IsSync};
 ghost use Rattle.doc_lock.specs.Lists.{Each};
-ghost use Rattle.doc_lock.specs.Told.{Covers, knows, seats_of};
+ghost use Rattle.doc_lock.specs.Told.{Covers};
 ghost use Rattle.lock_trial.specs.Noting.{EachWriter, HasWritten, IsDone, IsFresh, IsIdle, IsReady, Keeps, notes_by, of_seat};
 
 use crate::notes::Notes;
@@ -27,11 +27,11 @@ fn write_notes<R: Wait>(
     seat: &mut Seat<Notes>,
     notes: u64,
 ) -> Result<(), NoMemory>
-    requires idle { IsIdle lock.now (knows seat.old).number seat.old }
-    requires none { (knows seat.old).mine ≡ [] }
-    ensures idle { IsIdle lock.now (knows seat.old).number seat.new }
-    ensures same { Keeps (knows seat.old) (knows seat.new) }
-    ensures written { HasWritten notes result (knows seat.new) }
+    requires idle { IsIdle lock.now seat.old.view.number seat.old }
+    requires none { seat.old.view.mine ≡ [] }
+    ensures idle { IsIdle lock.now seat.old.view.number seat.new }
+    ensures same { Keeps seat.old.view seat.new.view }
+    ensures written { HasWritten notes result seat.new.view }
 {
     for what in 0..notes {
         write_note(rt, lock, seat, what)?;
@@ -64,11 +64,11 @@ fn write_all<'a, 'b, R: Threads + Wait + Sync>(
     writers: &'b mut [Writer],
     notes: u64,
 ) -> Result<(), NoMemory>
-    requires first { IsIdle lock.now 0 seat.old × ((knows seat.old).mine ≡ []) }
+    requires first { IsIdle lock.now 0 seat.old × (seat.old.view.mine ≡ []) }
     requires others { EachWriter (IsReady lock.now) writers.old }
     ensures first { IsIdle lock.now 0 seat.new }
-    ensures same { Keeps (knows seat.old) (knows seat.new) }
-    ensures written { HasWritten notes result (knows seat.new) }
+    ensures same { Keeps seat.old.view seat.new.view }
+    ensures written { HasWritten notes result seat.new.view }
     ensures others { EachWriter (IsDone notes lock.now) writers.new }
 {
     let (wrote, ()) = join_mut(
@@ -85,12 +85,12 @@ fn write_all<'a, 'b, R: Threads + Wait + Sync>(
 
 // Splits a seat off for each writer.
 fn deal(lock: &DocLock<Notes>, seat: &mut Seat<Notes>, writers: &mut Vec<Writer>, count: u32)
-    requires first { IsIdle lock.now 0 seat.old × IsFresh (knows seat.old) }
-    requires none { ((knows seat.old).made ≡ 1) × (vec_len writers.old ≡ 0) }
-    requires room { (count < seats_of lock.now) × (count ≤ vec_capacity writers.old) }
-    ensures first { IsIdle lock.now 0 seat.new × IsFresh (knows seat.new) }
-    ensures made { (knows seat.new).made ≡ count + 1 }
-    ensures origin { (knows seat.new).origin ≡ (knows seat.old).origin }
+    requires first { IsIdle lock.now 0 seat.old × IsFresh seat.old.view }
+    requires none { (seat.old.view.made ≡ 1) × (vec_len writers.old ≡ 0) }
+    requires room { (count < lock.now.seats) × (count ≤ vec_capacity writers.old) }
+    ensures first { IsIdle lock.now 0 seat.new × IsFresh seat.new.view }
+    ensures made { seat.new.view.made ≡ count + 1 }
+    ensures origin { seat.new.view.origin ≡ seat.old.view.origin }
     ensures others { (vec_len writers.new ≡ count) × EachWriter (IsReady lock.now) writers.new.items }
 {
     for _ in 0..count {
@@ -108,16 +108,16 @@ fn gather(
     seat: &mut Seat<Notes>,
     writers: &mut Vec<Writer>,
 ) -> Result<(), NoMemory>
-    requires first { IsIdle lock.now 0 seat.old × ((knows seat.old).joined ≡ []) }
-    requires made { (knows seat.old).made ≡ vec_len writers.old + 1 }
+    requires first { IsIdle lock.now 0 seat.old × (seat.old.view.joined ≡ []) }
+    requires made { seat.old.view.made ≡ vec_len writers.old + 1 }
     requires others { (n : ℕ) × EachWriter (IsDone n lock.now) writers.old.items }
     ensures first { IsIdle lock.now 0 seat.new }
-    ensures all { Covers (knows seat.new) }
+    ensures all { Covers seat.new.view }
     ensures none { vec_len writers.new ≡ 0 }
-    ensures same { ((knows seat.new).made ≡ (knows seat.old).made) × ((knows seat.new).origin ≡ (knows seat.old).origin)
-        × ((knows seat.new).mine ≡ (knows seat.old).mine) }
+    ensures same { (seat.new.view.made ≡ seat.old.view.made) × (seat.new.view.origin ≡ seat.old.view.origin)
+        × (seat.new.view.mine ≡ seat.old.view.mine) }
     ensures written { IfOk result (λ _. (n : ℕ) → EachWriter (IsDone n lock.now) writers.old.items
-        → Each (λ p. p.mine ≡ notes_by p.number n) (knows seat.new).joined) }
+        → Each (λ p. p.mine ≡ notes_by p.number n) seat.new.view.joined) }
 {
     let mut all = Ok(());
     while let Some(writer) = writers.pop() {

@@ -1,6 +1,6 @@
 //! One note, in one holding.
 ghost use Rattle.std.specs.Prelude.{◌≡◌, ◌≢◌, ◌+◌, ◌<◌, [], ◌∷◌, ◌++◌, true, false, MatchResult, MatchOption};
-ghost use Rattle.doc_lock.specs.Told.{IsOf, IsBeside, knows};
+ghost use Rattle.doc_lock.specs.Told.{IsOf, IsBeside};
 ghost use Rattle.base_core.specs.Lists.{Begins};
 ghost use Rattle.lock_trial.specs.Noting.{Keeps, note};
 
@@ -17,13 +17,13 @@ pub fn write_note<R: Wait>(
     what: u64,
 ) -> Result<(), NoMemory>
     requires lock { IsOf lock.now seat.old }
-    requires free { (knows seat.old).holds ≡ false }
+    requires free { seat.old.view.holds ≡ false }
     ensures lock { IsBeside seat.old seat.new }
-    ensures same { Keeps (knows seat.old) (knows seat.new) }
-    ensures held { ((knows seat.old).tries < (knows seat.new).tries) × ((knows seat.new).found ≡ 0) }
-    ensures mine { MatchResult result (λ _. (knows seat.new).mine ≡ (knows seat.old).mine ++ note (knows seat.old).number what ∷ [])
-        (λ _. (knows seat.new).mine ≡ (knows seat.old).mine) }
-    ensures seen { Begins (knows seat.old).seen (knows seat.new).seen }
+    ensures same { Keeps seat.old.view seat.new.view }
+    ensures held { (seat.old.view.tries < seat.new.view.tries) × (seat.new.view.found ≡ 0) }
+    ensures mine { MatchResult result (λ _. seat.new.view.mine ≡ seat.old.view.mine ++ note seat.old.view.number what ∷ [])
+        (λ _. seat.new.view.mine ≡ seat.old.view.mine) }
+    ensures seen { Begins seat.old.view.seen seat.new.view.seen }
 {
     let number = seat.number();
     let mut held = lock.hold(rt, seat);
@@ -40,15 +40,15 @@ pub fn try_note(
     what: u64,
 ) -> Option<Result<(), NoMemory>>
     requires lock { IsOf lock.now seat.old }
-    requires free { (knows seat.old).holds ≡ false }
+    requires free { seat.old.view.holds ≡ false }
     ensures lock { IsBeside seat.old seat.new }
-    ensures same { Keeps (knows seat.old) (knows seat.new) }
-    ensures tried { (knows seat.new).tries ≡ (knows seat.old).tries + 1 }
-    ensures busy { MatchOption result ((knows seat.new).found ≢ 0) (λ _. (knows seat.new).found ≡ 0) }
-    ensures mine { MatchOption result ((knows seat.new).mine ≡ (knows seat.old).mine)
-        (λ r. MatchResult r (λ _. (knows seat.new).mine ≡ (knows seat.old).mine ++ note (knows seat.old).number what ∷ [])
-        (λ _. (knows seat.new).mine ≡ (knows seat.old).mine)) }
-    ensures seen { Begins (knows seat.old).seen (knows seat.new).seen }
+    ensures same { Keeps seat.old.view seat.new.view }
+    ensures tried { seat.new.view.tries ≡ seat.old.view.tries + 1 }
+    ensures busy { MatchOption result (seat.new.view.found ≢ 0) (λ _. seat.new.view.found ≡ 0) }
+    ensures mine { MatchOption result (seat.new.view.mine ≡ seat.old.view.mine)
+        (λ r. MatchResult r (λ _. seat.new.view.mine ≡ seat.old.view.mine ++ note seat.old.view.number what ∷ [])
+        (λ _. seat.new.view.mine ≡ seat.old.view.mine)) }
+    ensures seen { Begins seat.old.view.seen seat.new.view.seen }
 {
     let number = seat.number();
     match lock.try_hold(seat) {

@@ -14,7 +14,15 @@ use Rattle.vern_sentence.specs.Names.{IsFreeName}
 use Rattle.vern_sentence.specs.Trees.{Sentence, begin, declare}
 use Rattle.vern_sentence.specs.Sentences.{IsSentence, lemma, theorem, parameter, axiom_sentence, spelled, stop, word}
 use Rattle.fol_theory.specs.Syntax.{Term, Formula}
-use Rattle.print_theory.specs.Printing.{quantifier_level, term_tokens, formula_tokens, term_openings, formula_openings, IsPrintableTerm, IsPrintable}
+use Rattle.print_theory.specs.Printing.{
+  quantifier_level,
+  term_tokens,
+  formula_tokens,
+  term_openings,
+  formula_openings,
+  IsPrintableTerm,
+  IsPrintable,
+}
 use Rattle.print_theory.specs.Spelling.{IsWritten, spell, spell_behind, spelling, between, stand, stand_behind, formula_text, term_text}
 use Rattle.print_theory.specs.Reading.{ReadsAs, BeginsWith, DeclaresAs, IsShown, sentence_of}
 use Rattle.print_theory.specs.Trees.{spanless, spanless_shape, term_tree, formula_tree, formula_shape}
@@ -22,7 +30,16 @@ use Rattle.print_theory.proofs.Lexed.{spelled_tokens}
 use Rattle.print_theory.proofs.Operands.{laid, past, kinds, spans, laid_again, laid_append, term_read, formula_read}
 use Rattle.print_theory.proofs.Refusals.{formula_within, term_within}
 use Rattle.print_theory.proofs.Shapes.{shape_read}
-use Rattle.print_theory.proofs.Written.{AreSpelled, written_of, written_stop, behind_stop, Starts, formula_starts, term_spelled, formula_spelled}
+use Rattle.print_theory.proofs.Written.{
+  AreSpelled,
+  written_of,
+  written_stop,
+  behind_stop,
+  Starts,
+  formula_starts,
+  term_spelled,
+  formula_spelled,
+}
 
 -- ---- the tokens of a text are its list, with some spans
 

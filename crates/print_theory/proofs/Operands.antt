@@ -1,20 +1,121 @@
 -- The tokens of a printed term or formula are an operand, whatever their spans, and its tree is that of the term or formula.
-use Rattle.std.proofs.Common.{◌≡◌, ℕ, zero, suc, ◌+◌, ◌<◌, ◌≤◌, inl, List, [], ◌∷◌, ◌++◌, max, Bool, true, false, nat_lt, if◌then◌else◌, refl, sym, ap, subst, ◌∙◌, arith, append_assoc, append-nil}
+use Rattle.std.proofs.Common.{
+  ◌≡◌,
+  ℕ,
+  zero,
+  suc,
+  ◌+◌,
+  ◌<◌,
+  ◌≤◌,
+  inl,
+  List,
+  [],
+  ◌∷◌,
+  ◌++◌,
+  max,
+  Bool,
+  true,
+  false,
+  nat_lt,
+  if◌then◌else◌,
+  refl,
+  sym,
+  ap,
+  subst,
+  ◌∙◌,
+  arith,
+  append_assoc,
+  append-nil,
+}
 use Rattle.std.proofs.lemmas.Bool.{ltb-false}
 use Rattle.vern_lex.specs.declared.span.Span.{Span}
-use Rattle.vern_grammar.specs.Trees.{Operator, implication, equivalence, disjunction, conjunction, equation, inequation, Name, Expression, Expressions, expressions}
+use Rattle.vern_grammar.specs.Trees.{
+  Operator,
+  implication,
+  equivalence,
+  disjunction,
+  conjunction,
+  equation,
+  inequation,
+  Name,
+  Expression,
+  Expressions,
+  expressions,
+}
 use Rattle.vern_grammar.specs.Trees as made
 use Rattle.vern_grammar.specs.Kinds.{Kind, Lexeme}
 use Rattle.vern_grammar.specs.Kinds as kind
 use Rattle.vern_grammar.specs.Levels.{op_level, left_at_most, right_at_most, bare, limit}
-use Rattle.vern_grammar.specs.Grammar.{tok, span, named, group, application, single, Binder, binder, Head, operator, quantifier, level, room, openings, begin, governing, Next, last, before, Fits, Ends, IsNames, none, more, IsOperand, constant, applied, enclosed, governed, IsApplication, alone, to_name, to_expression, IsHead, left}
+use Rattle.vern_grammar.specs.Grammar.{
+  tok,
+  span,
+  named,
+  group,
+  application,
+  single,
+  Binder,
+  binder,
+  Head,
+  operator,
+  quantifier,
+  level,
+  room,
+  openings,
+  begin,
+  governing,
+  Next,
+  last,
+  before,
+  Fits,
+  Ends,
+  IsNames,
+  none,
+  more,
+  IsOperand,
+  constant,
+  applied,
+  enclosed,
+  governed,
+  IsApplication,
+  alone,
+  to_name,
+  to_expression,
+  IsHead,
+  left,
+}
 use Rattle.vern_grammar.specs.Grammar as grammar
 use Rattle.vern_grammar.proofs.Runs.{op_below, operand_most}
 use Rattle.fol_theory.specs.Syntax.{Term, var, app, Terms, nil, cons, Formula, truth, falsity, pred, equal, both, either, implies, all, ex}
 use Rattle.print_theory.specs.Names.{name_of}
 use Rattle.print_theory.specs.Printing as print
-use Rattle.print_theory.specs.Printing.{application_level, argument_at_most, quantifier_level, enclosed_above, parentheses, term_tokens, arguments_tokens, joined_tokens, bound_tokens, bound_name, formula_tokens, term_openings, arguments_openings, joined_openings, formula_openings}
-use Rattle.print_theory.specs.Trees.{nowhere, spanless, spanless_list, applied_tree, term_tree, terms_tree, joined_tree, bound_tree, formula_tree}
+use Rattle.print_theory.specs.Printing.{
+  application_level,
+  argument_at_most,
+  quantifier_level,
+  enclosed_above,
+  parentheses,
+  term_tokens,
+  arguments_tokens,
+  joined_tokens,
+  bound_tokens,
+  bound_name,
+  formula_tokens,
+  term_openings,
+  arguments_openings,
+  joined_openings,
+  formula_openings,
+}
+use Rattle.print_theory.specs.Trees.{
+  nowhere,
+  spanless,
+  spanless_list,
+  applied_tree,
+  term_tree,
+  terms_tree,
+  joined_tree,
+  bound_tree,
+  formula_tree,
+}
 
 -- ---- tokens with any spans
 

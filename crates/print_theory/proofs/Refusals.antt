@@ -1,21 +1,113 @@
 -- A printed formula at a token of which too many openings are open is no expression: the grammar's machine refuses its tokens.
-use Rattle.std.proofs.Common.{◌≡◌, ℕ, zero, suc, ◌+◌, ◌<◌, ◌≤◌, ◌⊎◌, inl, inr, List, [], ◌∷◌, ◌++◌, max, Bool, true, false, cond, nat_lt, nat_le, if◌then◌else◌, Some, None, refl, sym, ap, ◌∙◌, arith, append_assoc, le-leb}
+use Rattle.std.proofs.Common.{
+  ◌≡◌,
+  ℕ,
+  zero,
+  suc,
+  ◌+◌,
+  ◌<◌,
+  ◌≤◌,
+  ◌⊎◌,
+  inl,
+  inr,
+  List,
+  [],
+  ◌∷◌,
+  ◌++◌,
+  max,
+  Bool,
+  true,
+  false,
+  cond,
+  nat_lt,
+  nat_le,
+  if◌then◌else◌,
+  Some,
+  None,
+  refl,
+  sym,
+  ap,
+  ◌∙◌,
+  arith,
+  append_assoc,
+  le-leb,
+}
 use Rattle.std.proofs.lemmas.Bool.{cases_lt, le-ltb, ltb-false}
 use Rattle.vern_lex.specs.declared.span.Span.{Span}
 use Rattle.vern_grammar.specs.Trees.{Operator, conjunction, disjunction, equation, implication, Name, Expression}
 use Rattle.vern_grammar.specs.Kinds.{Kind, Lexeme}
 use Rattle.vern_grammar.specs.Kinds as kind
 use Rattle.vern_grammar.specs.Levels.{op_level, left_at_most, right_at_most, bare, limit}
-use Rattle.vern_grammar.specs.Grammar.{tok, named, group, single, binder, Binder, operator, quantifier, level, room, begin, governing, Next, last, before, Fits, IsOperand, IsApplication, alone, IsHead, left, none, more, IsExpression}
+use Rattle.vern_grammar.specs.Grammar.{
+  tok,
+  named,
+  group,
+  single,
+  binder,
+  Binder,
+  operator,
+  quantifier,
+  level,
+  room,
+  begin,
+  governing,
+  Next,
+  last,
+  before,
+  Fits,
+  IsOperand,
+  IsApplication,
+  alone,
+  IsHead,
+  left,
+  none,
+  more,
+  IsExpression,
+}
 use Rattle.vern_grammar.specs.Grammar as grammar
-use Rattle.vern_grammar.specs.Machine.{Frame, parenthesis, argument, governor, outline, link, State, at, depth, top, within, shift, place, an_expression, run, ends, start, parsed}
+use Rattle.vern_grammar.specs.Machine.{
+  Frame,
+  parenthesis,
+  argument,
+  governor,
+  outline,
+  link,
+  State,
+  at,
+  depth,
+  top,
+  within,
+  shift,
+  place,
+  an_expression,
+  run,
+  ends,
+  start,
+  parsed,
+}
 use Rattle.vern_grammar.specs.Machine as mode
 use Rattle.vern_grammar.proofs.Runs.{run-append, run-None, within_yes, op_below, operand_most, runs, runs_application, runs_head}
 use Rattle.vern_grammar.proofs.Laws.{expression_read}
 use Rattle.fol_theory.specs.Syntax.{Term, var, app, Terms, nil, cons, Formula, truth, falsity, pred, equal, both, either, implies, all, ex}
 use Rattle.print_theory.specs.Names.{name_of}
 use Rattle.print_theory.specs.Printing as print
-use Rattle.print_theory.specs.Printing.{application_level, argument_at_most, quantifier_level, enclosed_above, parentheses, term_tokens, arguments_tokens, joined_tokens, bound_tokens, bound_name, formula_tokens, term_openings, arguments_openings, joined_openings, formula_openings}
+use Rattle.print_theory.specs.Printing.{
+  application_level,
+  argument_at_most,
+  quantifier_level,
+  enclosed_above,
+  parentheses,
+  term_tokens,
+  arguments_tokens,
+  joined_tokens,
+  bound_tokens,
+  bound_name,
+  formula_tokens,
+  term_openings,
+  arguments_openings,
+  joined_openings,
+  formula_openings,
+}
 use Rattle.print_theory.proofs.Operands.{laid, past, laid_append, Everywhere, left_low, Argument, argument_read, term_read, formula_read}
 
 -- ---- the machine, where no opening more may be

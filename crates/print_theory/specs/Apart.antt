@@ -1,7 +1,7 @@
 -- Names that can't be taken for a variable: each name of a function, a predicate or a sort in a formula is taken, and is no variable's.
 use Rattle.std.specs.Prelude.{◌≡◌, ℕ, List, true, false}
 use Rattle.fol_theory.specs.Syntax.{Term, var, app, Terms, nil, cons, Formula, truth, falsity, pred, equal, both, either, implies, all, ex}
-use Rattle.print_theory.specs.Names.{is_among}
+use Rattle.elab_theory.specs.Sentences.{is_among}
 
 -- the name is taken, and no variable has it
 abbrev pub IsApart : List (List ℕ) → List (List ℕ) → List ℕ → Type 0

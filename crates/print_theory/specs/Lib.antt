@@ -4,3 +4,4 @@ pub mod Printing
 pub mod Reading
 pub mod Spelling
 pub mod Trees
+pub mod Typed

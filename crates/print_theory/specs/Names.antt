@@ -1,12 +1,28 @@
 -- The names that bound variables are printed with.
-use Rattle.std.specs.Prelude.{◌≡◌, ◌⊎◌, ℕ, zero, suc, ◌+◌, ◌<◌, ◌||◌, List, [], ◌∷◌, ◌++◌, length, map, Bool, true, false, nat_eq, if◌then◌else◌, Option, Some, None}
-use Rattle.std.specs.List.{list_any}
+use Rattle.std.specs.Prelude.{
+  ◌≡◌,
+  ◌⊎◌,
+  ℕ,
+  zero,
+  suc,
+  ◌+◌,
+  ◌<◌,
+  List,
+  [],
+  ◌∷◌,
+  ◌++◌,
+  length,
+  map,
+  true,
+  false,
+  if◌then◌else◌,
+  Option,
+  Some,
+  None,
+}
 use Rattle.std.specs.Int.Digits.{digits_of}
 use Rattle.fol_theory.specs.Syntax.{is_name}
-
--- the name is one of the names
-abbrev pub is_among : List ℕ → List (List ℕ) → Bool
-is_among x ys = list_any (is_name x) ys
+use Rattle.elab_theory.specs.Sentences.{is_among}
 
 -- a number in decimal digits, with no zero before it
 abbrev pub numeral : ℕ → List ℕ

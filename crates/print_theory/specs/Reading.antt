@@ -10,8 +10,8 @@ use Rattle.vern_grammar.specs.Grammar.{IsExpression, named}
 use Rattle.vern_sentence.specs.Names.{IsFreeName}
 use Rattle.vern_sentence.specs.Trees.{begin, declare}
 use Rattle.vern_sentence.specs.Sentences.{IsSentence}
-use Rattle.fol_theory.specs.Syntax.{Formula}
-use Rattle.print_theory.specs.Printing.{IsPrintable, formula_openings, quantifier_level}
+use Rattle.fol_theory.specs.Syntax.{Term, Formula}
+use Rattle.print_theory.specs.Printing.{IsPrintable, IsPrintableTerm, formula_openings, term_openings, quantifier_level}
 use Rattle.print_theory.specs.Trees.{spanless, spanless_shape}
 
 -- the tokens of the text are an expression, whose tree is this one but for its spans
@@ -38,3 +38,9 @@ pub record IsShown (names : List (List ℕ)) (a : Formula) : Type 0 where
   pub free : All IsFreeName names
   pub printable : IsPrintable (length names) a
   pub openings : formula_openings quantifier_level a ≤ limit
+
+-- the same of a term
+pub record IsShownTerm (names : List (List ℕ)) (t : Term) : Type 0 where
+  pub free : All IsFreeName names
+  pub printable : IsPrintableTerm (length names) t
+  pub openings : term_openings quantifier_level t ≤ limit

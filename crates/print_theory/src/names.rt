@@ -2,7 +2,8 @@
 ghost use Rattle.std.specs.Prelude.{◌≡◌, ◌<◌, ◌∷◌, ℕ, List, length, Some, None, false};
 ghost use Rattle.vern_sentence.specs.Names.{IsFreeName};
 ghost use Rattle.fol_theory.specs.Syntax.{Formula};
-ghost use Rattle.print_theory.specs.Names.{IsDistinct, IsPicked, is_among, name_of, picked, position};
+ghost use Rattle.elab_theory.specs.Sentences.{is_among};
+ghost use Rattle.print_theory.specs.Names.{IsDistinct, IsPicked, name_of, picked, position};
 ghost use Rattle.print_theory.specs.Printing.{bound_name};
 ghost use Rattle.print_theory.specs.Apart.{IsApart, IsApartFormula};
 

@@ -1,13 +1,12 @@
 //! The lines of output.
 
-use base_core::{Bytes, Ids, SharedBytes};
-use sqlite_items::Items;
+use base_core::{Bytes, Ids, Sequence, SharedBytes};
 
 /// Texts of any bytes.
-pub type Texts = Items<Bytes>;
+pub type Texts = Sequence<Bytes>;
 
 /// Ids of sentences, each with the text of its verdict.
-pub type FaultTexts = Items<(u64, Bytes)>;
+pub type FaultTexts = Sequence<(u64, Bytes)>;
 
 /// One line of output. A line that answers a command begins with the command's tag, whose bytes all lines that answer
 /// it share. Ids are those of sentences; offsets are bytes, counted from 0.

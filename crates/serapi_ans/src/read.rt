@@ -40,9 +40,8 @@ ghost use Rattle.serapi_ans.specs.ReadBack.{
 };
 
 use crate::{BadText, EditLine, Exn, FaultTexts, Line, Texts, lines_fit, write_line};
-use base_core::{Bytes, Ids, NoMemory, SharedBytes};
+use base_core::{Bytes, Ids, NoMemory, Sequence, SharedBytes};
 use sexp_core::{Sexp, read_text};
-use sqlite_items::Items;
 use std::alloc::Global;
 use stm_base::{MemSink, Out};
 use thiserror::Error;
@@ -234,7 +233,7 @@ fn read_numbers(alloc: Global, each: &[Sexp]) -> Result<Ids, NoMemory>
 fn read_strings(alloc: Global, each: &[Sexp]) -> Result<Texts, NoMemory>
     ensures { IfOk result (λ texts. texts ≡ strings_in (values (map meaning each.now))) }
 {
-    let mut texts = Items::new(alloc);
+    let mut texts = Sequence::new(alloc);
     for value in each {
         let text = copy_text(alloc, at1(Some(value)))?;
         texts.push(text)?;
@@ -245,7 +244,7 @@ fn read_strings(alloc: Global, each: &[Sexp]) -> Result<Texts, NoMemory>
 fn read_faults(alloc: Global, each: &[Sexp]) -> Result<FaultTexts, NoMemory>
     ensures { IfOk result (λ faults. faults ≡ faults_in (values (map meaning each.now))) }
 {
-    let mut faults = Items::new(alloc);
+    let mut faults = Sequence::new(alloc);
     for value in each {
         let id = number_in(at0(Some(value)));
         let text = copy_text(alloc, at1(Some(value)))?;

@@ -1,8 +1,7 @@
 //! Lines with the texts that they are written as, typed from the table of lines.
 
 use crate::*;
-use base_core::{Bytes, Ids, NoMemory, SharedBytes};
-use sqlite_items::Items;
+use base_core::{Bytes, Ids, NoMemory, Sequence, SharedBytes};
 use std::alloc::Global;
 use std::process::Abort;
 use std::test::Fail;
@@ -43,7 +42,7 @@ fn text(alloc: Global, bytes: &str) -> Result<Bytes, NoMemory> {
 }
 
 fn texts(alloc: Global, each: &[&str]) -> Result<Texts, NoMemory> {
-    let mut texts = Items::new(alloc);
+    let mut texts = Sequence::new(alloc);
     for bytes in each {
         texts.push(text(alloc, bytes)?)?;
     }
@@ -51,7 +50,7 @@ fn texts(alloc: Global, each: &[&str]) -> Result<Texts, NoMemory> {
 }
 
 fn faults(alloc: Global, each: &[(u64, &str)]) -> Result<FaultTexts, NoMemory> {
-    let mut faults = Items::new(alloc);
+    let mut faults = Sequence::new(alloc);
     for (id, bytes) in each {
         faults.push((*id, text(alloc, bytes)?))?;
     }

@@ -1,3 +1,3 @@
-pub mod Grown
 pub mod Progress
-pub mod Closed
+pub mod Grown
+pub mod Concluded

@@ -69,6 +69,20 @@ LegalFrom p (e ∷ es) = Asks p e × LegalFrom (step p e) es
 abbrev pub Legal : List Entry → Type 0
 Legal h = LegalFrom start h
 
+-- the entry is Close
+abbrev pub is_close : Entry → Bool
+is_close (Command n q cut ls) = false
+is_close Close = true
+
+-- the last of the entries is Close; where there is none, b
+abbrev pub closed_from : Bool → List Entry → Bool
+closed_from b [] = b
+closed_from b (e ∷ es) = closed_from (is_close e) es
+
+-- the last entry is Close
+abbrev pub is_closed : List Entry → Bool
+is_closed h = closed_from false h
+
 -- the bytes of the lines of an entry
 abbrev pub rendered : Entry → List ℕ
 rendered (Command n q cut ls) = lines_text ls

@@ -1,64 +1,25 @@
-//! Serving a source and a sink on one thread.
+//! The serving loop, over any source and any party.
 ghost use Rattle.std.specs.Prelude.{◌≡◌, ◌+◌, ◌≤◌, ◌<◌, ◌^◌, [], false, length, take, None, IfOk, OnErr};
 ghost use Rattle.std.specs.Io.KnownBytes.{Consumes, IsAtEnd, Keeps};
 ghost use Rattle.stm_base.specs.Counts.{HasCause};
 ghost use Rattle.sexp_theory.specs.Items.{end_offset, fed, most_bytes, next_item};
 ghost use Rattle.sexp_core.specs.Readers.{item_meaning};
 ghost use Rattle.serapi_cmd.specs.Requests.{request_of};
-ghost use Rattle.session_run.specs.Histories.{standing};
-ghost use Rattle.session_run.specs.Serving.{Continues, Finishes, IsIdle, Passes, Served, Takes, status_of as status_after, stop_after};
-ghost use Rattle.session_run.specs.Headline.{HasCompleteness, HasDoneCause, HasRead, HasReadFaultCause, HasTooLongCause};
-ghost use Rattle.session_run.specs.Headline.{HasTruncatedCause, HasWriteFaultCause, HasWritten, HasLegalHistory, IsOneThread, IsStatus};
+ghost use Rattle.session_run.specs.Items.{has_quit};
+ghost use Rattle.session_run.specs.Serving.{Finishes, IsIdle, Passes, Served, Takes, Unless, UnlessLost, between, midway, stop_after};
 
-use crate::history::History;
-use crate::live::Live;
-use crate::status::{DONE, NO_MEMORY, READ_FAULT, TOO_LONG, TRUNCATED, WRITE_FAULT};
+use crate::party::{Answered, Loss, Party};
 use base_core::NoMemory;
 use serapi_cmd::{Request, request_of_bad_place, request_of_value};
 use sexp_core::{Finish, InputEnd, Item, Reader};
 use std::alloc::Global;
-use stm_base::{Failed, Sink, Source};
+use stm_base::{Failed, Source};
 
 /// The most bytes of input that are taken.
 pub const INPUT_LIMIT: u64 = 4_294_967_296;
 
 /// How many bytes are asked for at a time.
 const PIECE: usize = 4096;
-
-/// How a run ended.
-#[derive(Drop)]
-pub struct Ended<K> {
-    /// The exit status.
-    pub status: u8,
-    /// The sink that was written to.
-    pub sink: K,
-    /// What was done, in order.
-    pub history: History,
-    /// How many bytes were taken from the source.
-    pub taken: u64,
-    /// Whether the source answered its end.
-    pub at_end: bool,
-}
-
-/// Why no more was answered.
-#[derive(Clone, Copy, Debug, PartialEq, Eq)]
-pub(crate) enum Loss {
-    /// A write failed.
-    WriteFault,
-    /// Memory was wanting outside of a request's own work.
-    WantOfMemory,
-}
-
-/// How far the requests were answered.
-#[derive(Clone, Copy, Debug, PartialEq, Eq)]
-pub(crate) enum Answered {
-    /// All that there are so far, without a Quit.
-    More,
-    /// All up to and with Quit.
-    Quit,
-    /// No more could be answered.
-    Lost(Loss),
-}
 
 /// Why the serving stopped.
 #[derive(Clone, Copy, Debug, PartialEq, Eq)]
@@ -77,90 +38,45 @@ pub(crate) enum Stop {
 
 /// What was served of a source.
 #[derive(Clone, Copy, Debug)]
-struct Service {
-    stop: Stop,
-    taken: u64,
-    at_end: bool,
+pub(crate) struct Service {
+    pub stop: Stop,
+    pub taken: u64,
+    pub at_end: bool,
 }
 
-/// Serves a source and a sink on this thread: takes a piece of the input, answers every whole item in it, and
-/// takes the next, up to Quit, the end of the input, a fault or `INPUT_LIMIT`. A failed read or write isn't tried
-/// again. Where memory is wanting to make the session, the history is empty; in every other case it ends with
-/// Close.
-pub fn serve_alone<S: Source, K: Sink>(alloc: Global, source: &mut S, sink: K) -> Ended<K>
-    // The history is legal and closed, and an empty one means that nothing was read or written.
-    ensures legal { HasLegalHistory result.status result.taken result.history.items }
-    ensures untouched_source { result.history.items ≡ [] → source.new ≡ source.old }
-    ensures untouched_sink { result.history.items ≡ [] → result.sink ≡ sink }
-
-    // What was read, what was written, and that one thread would have written the same.
-    ensures read { HasRead (S.left source.old) (S.left source.new)
-        result.status result.taken result.at_end result.history.items }
-    ensures written { HasWritten (K.written sink) (K.written result.sink)
-        (K.faults sink) (K.faults result.sink) result.status result.history.items }
-    ensures one_thread { IsOneThread result.history.items }
-
-    // The causes of each status.
-    ensures known { IsStatus result.status }
-    ensures done { HasDoneCause (S.left source.old) result.status result.taken result.at_end result.history.items }
-    ensures read_fault { HasReadFaultCause (S.faults source.old) (S.faults source.new) result.status }
-    ensures write_fault { HasWriteFaultCause (K.faults sink) (K.faults result.sink) result.status }
-    ensures truncated { HasTruncatedCause (S.left source.old) result.status result.taken result.at_end result.history.items }
-    ensures too_long { HasTooLongCause result.status result.taken result.at_end result.history.items }
-
-    // Without faults and want of memory everything is answered.
-    ensures complete { HasCompleteness (S.left source.old)
-        (S.faults source.old) (S.faults source.new) (K.faults sink) (K.faults result.sink)
-        result.status result.taken result.at_end result.history.items }
+/// Serves a source by a party, which then ends.
+pub(crate) fn serve_party<S: Source, P: Party>(
+    alloc: Global,
+    source: &mut S,
+    party: &mut P,
+) -> Service
+    requires none { P.asked party.old ≡ [] }
+    requires whole { P.left party.old ≡ false }
+    requires ready { P.ready party.old }
+    requires clean { P.clean party.old }
+    ensures served { Served (between (S.left source.old) (S.left source.new) (S.faults source.old) (S.faults source.new))
+        result (P.asked party.new) (P.left party.new) }
+    ensures clean { UnlessLost result.stop (P.clean party.new) }
+    ensures ended { P.ended party.new }
+    ensures goes_on { P.goes_on party.old party.new }
 {
-    let mut live = match Live::new(alloc, sink) {
-        Ok(live) => live,
-        Err(sink) => {
-            return Ended {
-                status: NO_MEMORY,
-                sink,
-                history: History::new(alloc),
-                taken: 0,
-                at_end: false,
-            };
-        }
-    };
-    let Service {
-        stop,
-        taken,
-        at_end,
-    } = serve_source(alloc, source, &mut live);
-    let (sink, history) = live.close();
-    Ended {
-        status: status_of(stop),
-        sink,
-        history,
-        taken,
-        at_end,
-    }
-}
-
-fn status_of(stop: Stop) -> u8
-    ensures { result ≡ status_after stop }
-{
-    match stop {
-        Stop::Quit | Stop::End(InputEnd::Clean) => DONE,
-        Stop::End(InputEnd::Truncated(_)) => TRUNCATED,
-        Stop::Fault => READ_FAULT,
-        Stop::Limit => TOO_LONG,
-        Stop::Lost(Loss::WriteFault) => WRITE_FAULT,
-        Stop::Lost(Loss::WantOfMemory) => NO_MEMORY,
-    }
+    let service = serve_source(alloc, source, party);
+    party.end();
+    service
 }
 
 /// Takes piece after piece, and answers the whole items of each before the next is taken. Each turn takes at
 /// least one byte, ends or fails.
-fn serve_source<S: Source, K: Sink>(alloc: Global, source: &mut S, live: &mut Live<K>) -> Service
-    requires none { live.old.entries ≡ [] }
-    requires clean { live.old.output.failed ≡ false }
-    ensures served { Served (S.left source.old) (S.left source.new) (S.faults source.old) (S.faults source.new)
-        result.taken result.at_end result.stop live.new.entries live.new.output }
-    ensures output { Continues live.old.output live.new.output }
+fn serve_source<S: Source, P: Party>(alloc: Global, source: &mut S, party: &mut P) -> Service
+    requires none { P.asked party.old ≡ [] }
+    requires whole { P.left party.old ≡ false }
+    requires ready { P.ready party.old }
+    requires clean { P.clean party.old }
+    ensures served { Served (between (S.left source.old) (S.left source.new) (S.faults source.old) (S.faults source.new))
+        result (P.asked party.new) (P.left party.new) }
+    ensures clean { UnlessLost result.stop (P.clean party.new) }
+    ensures ready { P.ready party.new }
+    ensures goes_on { P.goes_on party.old party.new }
 {
     let mut taken = 0u64;
     let Ok(mut reader) = Reader::new(alloc) else {
@@ -182,13 +98,13 @@ fn serve_source<S: Source, K: Sink>(alloc: Global, source: &mut S, live: &mut Li
         };
         if n == 0 {
             return Service {
-                stop: answer_end(alloc, reader, live),
+                stop: answer_end(alloc, reader, party),
                 taken,
                 at_end: true,
             };
         }
         taken += n as u64;
-        let stop = match answer_piece(alloc, &mut reader, &buf[..n], live) {
+        let stop = match answer_piece(alloc, &mut reader, &buf[..n], party) {
             Answered::More => continue,
             Answered::Quit => Stop::Quit,
             Answered::Lost(loss) => Stop::Lost(loss),
@@ -220,40 +136,50 @@ fn read_front<S: Source>(source: &mut S, buf: &mut [u8], most: usize) -> Result<
 }
 
 /// Answers the items that a piece of the input makes whole.
-fn answer_piece<K: Sink>(
+fn answer_piece<P: Party>(
     alloc: Global,
     reader: &mut Reader,
     piece: &[u8],
-    live: &mut Live<K>,
+    party: &mut P,
 ) -> Answered
     requires room { end_offset reader.old.unread + length piece.now ≤ 2 ^ 63 }
     requires limit { reader.old.limit ≡ most_bytes }
-    requires going { (standing live.old.entries).quit ≡ false }
-    requires clean { live.old.output.failed ≡ false }
-    ensures passes { Passes result (fed reader.old.unread piece.now) live.old.entries reader.new.unread live.new.entries live.new.output }
+    requires going { has_quit (P.asked party.old) ≡ false }
+    requires whole { P.left party.old ≡ false }
+    requires ready { P.ready party.old }
+    requires clean { P.clean party.old }
+    ensures passes { Passes result (midway (P.asked party.old) (fed reader.old.unread piece.now))
+        (midway (P.asked party.new) reader.new.unread) (P.left party.new) }
     ensures idle { result ≡ Answered.More → IsIdle reader.new (end_offset reader.old.unread + length piece.now) }
-    ensures output { Continues live.old.output live.new.output }
+    ensures clean { Unless result (P.clean party.new) }
+    ensures ready { P.ready party.new }
+    ensures goes_on { P.goes_on party.old party.new }
 {
     match reader.feed(piece) {
-        Ok(_) => answer_items(alloc, reader, live),
+        Ok(_) => answer_items(alloc, reader, party),
         Err(_) => Answered::Lost(Loss::WantOfMemory),
     }
 }
 
 /// Answers each whole item that was fed.
-fn answer_items<K: Sink>(alloc: Global, reader: &mut Reader, live: &mut Live<K>) -> Answered
+fn answer_items<P: Party>(alloc: Global, reader: &mut Reader, party: &mut P) -> Answered
     requires limit { reader.old.limit ≡ most_bytes }
-    requires going { (standing live.old.entries).quit ≡ false }
-    requires clean { live.old.output.failed ≡ false }
-    ensures passes { Passes result reader.old.unread live.old.entries reader.new.unread live.new.entries live.new.output }
+    requires going { has_quit (P.asked party.old) ≡ false }
+    requires whole { P.left party.old ≡ false }
+    requires ready { P.ready party.old }
+    requires clean { P.clean party.old }
+    ensures passes { Passes result (midway (P.asked party.old) reader.old.unread)
+        (midway (P.asked party.new) reader.new.unread) (P.left party.new) }
     ensures idle { result ≡ Answered.More → IsIdle reader.new (end_offset reader.old.unread) }
-    ensures output { Continues live.old.output live.new.output }
+    ensures clean { Unless result (P.clean party.new) }
+    ensures ready { P.ready party.new }
+    ensures goes_on { P.goes_on party.old party.new }
 {
     'items: loop {
         match reader.next() {
             Err(_) => return Answered::Lost(Loss::WantOfMemory),
             Ok(None) => return Answered::More,
-            Ok(Some(item)) => match answer_item(alloc, item, live) {
+            Ok(Some(item)) => match answer_item(alloc, item, party) {
                 Answered::More => {}
                 Answered::Quit => return Answered::Quit,
                 Answered::Lost(loss) => return Answered::Lost(loss),
@@ -262,27 +188,22 @@ fn answer_items<K: Sink>(alloc: Global, reader: &mut Reader, live: &mut Live<K>)
     }
 }
 
-/// Answers one item, and then looks for a write fault.
-fn answer_item<K: Sink>(alloc: Global, item: Item, live: &mut Live<K>) -> Answered
-    requires going { (standing live.old.entries).quit ≡ false }
-    ensures takes { Takes result live.old.entries
-        (request_of (standing live.old.entries).commands (item_meaning item)) live.new.entries live.new.output }
-    ensures output { Continues live.old.output live.new.output }
+/// Answers one item.
+fn answer_item<P: Party>(alloc: Global, item: Item, party: &mut P) -> Answered
+    requires going { has_quit (P.asked party.old) ≡ false }
+    requires whole { P.left party.old ≡ false }
+    requires ready { P.ready party.old }
+    ensures takes { Takes result (P.asked party.old)
+        (request_of (length (P.asked party.old)) (item_meaning item)) (P.asked party.new) (P.left party.new) }
+    ensures clean { Unless result (P.clean party.new) }
+    ensures ready { P.ready party.new }
+    ensures goes_on { P.goes_on party.old party.new }
 {
-    let number = live.next_number();
+    let number = party.next_number();
     let Ok(request) = read_request(alloc, item, number) else {
         return Answered::Lost(Loss::WantOfMemory);
     };
-    let quit = request.is_quit();
-    match live.command(alloc, request) {
-        Err(_) => Answered::Lost(Loss::WantOfMemory),
-        Ok(_) => {
-            if live.failed() {
-                return Answered::Lost(Loss::WriteFault);
-            }
-            if quit { Answered::Quit } else { Answered::More }
-        }
-    }
+    party.answer(alloc, request)
 }
 
 /// The request that the item with a number is.
@@ -296,20 +217,24 @@ fn read_request(alloc: Global, item: Item, number: u64) -> Result<Request, NoMem
 }
 
 /// Answers the item that the end of the input makes whole, if there is one.
-fn answer_end<K: Sink>(alloc: Global, reader: Reader, live: &mut Live<K>) -> Stop
+fn answer_end<P: Party>(alloc: Global, reader: Reader, party: &mut P) -> Stop
     requires none { next_item most_bytes false reader.unread ≡ None }
     requires limit { reader.limit ≡ most_bytes }
-    requires going { (standing live.old.entries).quit ≡ false }
-    requires clean { live.old.output.failed ≡ false }
-    ensures finishes { Finishes result reader.unread live.old.entries live.new.entries live.new.output }
-    ensures output { Continues live.old.output live.new.output }
+    requires going { has_quit (P.asked party.old) ≡ false }
+    requires whole { P.left party.old ≡ false }
+    requires ready { P.ready party.old }
+    requires clean { P.clean party.old }
+    ensures finishes { Finishes result (midway (P.asked party.old) reader.unread) (P.asked party.new) (P.left party.new) }
+    ensures clean { UnlessLost result (P.clean party.new) }
+    ensures ready { P.ready party.new }
+    ensures goes_on { P.goes_on party.old party.new }
 {
     let Ok(Finish { last, ended }) = reader.finish() else {
         return Stop::Lost(Loss::WantOfMemory);
     };
     match last {
         None => Stop::End(ended),
-        Some(item) => stop_after(answer_item(alloc, item, live), ended),
+        Some(item) => stop_after(answer_item(alloc, item, party), ended),
     }
 }
 

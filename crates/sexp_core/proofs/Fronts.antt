@@ -25,17 +25,18 @@ use Rattle.sexp_core.specs.declared.scan.Front.{Front}
 use Rattle.sexp_theory.proofs.Depths.{item_of_bytes, item_shallow}
 use Rattle.sexp_core.proofs.Gaps.{at_item-same, first_of-without_gap, first_of-item}
 
--- nothing was looked at
-pub front-unseen : (limit : ℕ) (bytes : List ℕ) (begin at : ℕ) (skipping : Bool) (m : Machine) → begin ≤ length bytes
-    → at + (length bytes - begin) ≤ 2 ^ 63
-    → state_of m ≡ start → IsFront limit bytes (record { start = begin; at = at; skipping = skipping; seen = 0 }) m
-front-unseen limit bytes begin at skipping m w r e = record {
-  within = omega arith;
-  room = r;
-  clean = λ _. e;
-  begun = λ lt. absurd (omega arith);
-  read = λ rest. ap (λ s. found_from limit at 0 s (drop begin bytes ++ rest)) (sym e);
-}
+module _ (limit : ℕ) (bytes : List ℕ) where
+  -- nothing was looked at
+  pub front-unseen : (begin at : ℕ) (skipping : Bool) (m : Machine) → begin ≤ length bytes
+      → at + (length bytes - begin) ≤ 2 ^ 63
+      → state_of m ≡ start → IsFront limit bytes (record { start = begin; at = at; skipping = skipping; seen = 0 }) m
+  front-unseen begin at skipping m w r e = record {
+    within = omega arith;
+    room = r;
+    clean = λ _. e;
+    begun = λ lt. absurd (omega arith);
+    read = λ rest. ap (λ s. found_from limit at 0 s (drop begin bytes ++ rest)) (sym e);
+  }
 
 -- ---- what stands first
 
@@ -77,11 +78,12 @@ ready-fresh limit bytes front m gap f e =
           ∙ ap (λ k. found_from limit (front.at + gap.len) k (state_of m) (drop k item ++ rest)) (sym e);
     }
 
-ready-by : (limit : ℕ) (bytes : List ℕ) (front : Front) (m : Machine) (gap : Gap) (k : ℕ) → front.seen ≡ k → IsFront limit bytes front m
-    → IsFrontGap (drop front.start bytes) front.skipping gap → IsReady limit bytes front m gap
-ready-by limit bytes front m gap zero e f g = ready-fresh limit bytes front m gap f e
-ready-by limit bytes front m gap (suc k) e f g =
-    ready-begun limit bytes front m gap f (gap-none (drop front.start bytes) front.skipping gap g (f.begun (omega arith)))
+module _ (limit : ℕ) (bytes : List ℕ) (front : Front) (m : Machine) (gap : Gap) where
+  ready-by : (k : ℕ) → front.seen ≡ k → IsFront limit bytes front m
+      → IsFrontGap (drop front.start bytes) front.skipping gap → IsReady limit bytes front m gap
+  ready-by zero e f g = ready-fresh limit bytes front m gap f e
+  ready-by (suc k) e f g =
+      ready-begun limit bytes front m gap f (gap-none (drop front.start bytes) front.skipping gap g (f.begun (omega arith)))
 
 pub ready : (limit : ℕ) (bytes : List ℕ) (front : Front) (m : Machine) (gap : Gap) → IsFront limit bytes front m
     → IsFrontGap (drop front.start bytes) front.skipping gap → IsReady limit bytes front m gap

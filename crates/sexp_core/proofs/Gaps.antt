@@ -105,25 +105,26 @@ FirstSame limit bytes =
     (at : ℕ) → (first_of limit (behind_gap at bytes) ≡ found limit at bytes)
     × (first_of limit (behind_line at bytes) ≡ found_behind_line limit at bytes)
 
-first_same-gap : (limit at b : ℕ) (rest : List ℕ) (t s : Bool) → is_blank b ≡ t → (b == 59) ≡ s → FirstSame limit rest
-    → first_of limit (behind_gap at (b ∷ rest)) ≡ found limit at (b ∷ rest)
-first_same-gap limit at b rest t s e f ih =
-    let g : Bool → Bool → Unread = λ t s. if t then behind_gap (at + 1) rest else
-    (if s then behind_line (at + 1) rest else unread_of (b ∷ rest) at false) in
-    let h : Bool → Bool → Found = λ t s. if t then found limit (at + 1) rest else
-    (if s then found_behind_line limit (at + 1) rest else found_from limit at 0 start (b ∷ rest)) in
-    let left : first_of limit (behind_gap at (b ∷ rest)) ≡ first_of limit (g t s) = ap (λ t. first_of limit (g t (b == 59))) e
-    ∙ ap (λ s. first_of limit (g t s)) f in
-    let right : found limit at (b ∷ rest) ≡ h t s = ap (λ t. h t (b == 59)) e ∙ ap (λ s. h t s) f in
-    let middle : first_of limit (g t s) ≡ h t s =
-    elim t as (λ t. (found limit at (b ∷ rest) ≡ h t s) → first_of limit (g t s) ≡ h t s) [
-      | true ↦ λ right. (ih (at + 1)).0
-      | false ↦ elim s as (λ s. (found limit at (b ∷ rest) ≡ h false s) → first_of limit (g false s) ≡ h false s) [
-        | true ↦ λ right. (ih (at + 1)).1
-        | false ↦ λ right. right
-      ]
-    ] right in
-    left ∙ middle ∙ sym right
+module _ (limit at b : ℕ) (rest : List ℕ) where
+  first_same-gap : (t s : Bool) → is_blank b ≡ t → (b == 59) ≡ s → FirstSame limit rest
+      → first_of limit (behind_gap at (b ∷ rest)) ≡ found limit at (b ∷ rest)
+  first_same-gap t s e f ih =
+      let g : Bool → Bool → Unread = λ t s. if t then behind_gap (at + 1) rest else
+      (if s then behind_line (at + 1) rest else unread_of (b ∷ rest) at false) in
+      let h : Bool → Bool → Found = λ t s. if t then found limit (at + 1) rest else
+      (if s then found_behind_line limit (at + 1) rest else found_from limit at 0 start (b ∷ rest)) in
+      let left : first_of limit (behind_gap at (b ∷ rest)) ≡ first_of limit (g t s) = ap (λ t. first_of limit (g t (b == 59))) e
+      ∙ ap (λ s. first_of limit (g t s)) f in
+      let right : found limit at (b ∷ rest) ≡ h t s = ap (λ t. h t (b == 59)) e ∙ ap (λ s. h t s) f in
+      let middle : first_of limit (g t s) ≡ h t s =
+      elim t as (λ t. (found limit at (b ∷ rest) ≡ h t s) → first_of limit (g t s) ≡ h t s) [
+        | true ↦ λ right. (ih (at + 1)).0
+        | false ↦ elim s as (λ s. (found limit at (b ∷ rest) ≡ h false s) → first_of limit (g false s) ≡ h false s) [
+          | true ↦ λ right. (ih (at + 1)).1
+          | false ↦ λ right. right
+        ]
+      ] right in
+      left ∙ middle ∙ sym right
 
 first_same-line : (limit at b : ℕ) (rest : List ℕ) (t : Bool) → (b == 10) ≡ t → FirstSame limit rest
     → first_of limit (behind_line at (b ∷ rest)) ≡ found_behind_line limit at (b ∷ rest)

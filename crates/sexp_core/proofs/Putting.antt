@@ -24,9 +24,10 @@ pub record IsPutBut (old : Output) (whole rest : List ℕ) (new : Output) : Type
   pub put : IsPut old front new
   pub is_whole : front ++ rest ≡ whole
 
-pub put_more : (a b c : Output) (whole rest piece more : List ℕ) → IsPutBut a whole rest b → IsPut b piece c → rest ≡ piece ++ more
+pub put_more : {a b c : Output} {whole : List ℕ} (rest : List ℕ) {piece : List ℕ} (more : List ℕ) → IsPutBut a whole rest b
+    → IsPut b piece c → rest ≡ piece ++ more
     → IsPutBut a whole more c
-put_more a b c whole rest piece more p q e =
+put_more {a} {b} {c} rest {piece} more p q e =
     record {
       front = p.front ++ piece;
       put = IsPut-both a b c p.front piece p.put q;
@@ -34,8 +35,8 @@ put_more a b c whole rest piece more p q e =
     }
 
 -- three pieces in a row
-pub put_three : (a b c d : Output) (xs ys zs : List ℕ) → IsPut a xs b → IsPut b ys c → IsPut c zs d → IsPut a (xs ++ (ys ++ zs)) d
-put_three a b c d xs ys zs p q r = IsPut-both a b d xs (ys ++ zs) p (IsPut-both b c d ys zs q r)
+pub put_three : {a b c d : Output} {xs ys zs : List ℕ} → IsPut a xs b → IsPut b ys c → IsPut c zs d → IsPut a (xs ++ (ys ++ zs)) d
+put_three {a} {b} {c} {d} {xs} {ys} {zs} p q r = IsPut-both a b d xs (ys ++ zs) p (IsPut-both b c d ys zs q r)
 
 -- ---- atoms
 
@@ -76,26 +77,25 @@ run_written (b ∷ bs) = by (is_itself b) refl (run_written bs)
         ∙ ap (λ n. take n (b ∷ bs) ++ quoted_bytes (drop n (b ∷ bs))) one
 
 -- a run of bytes that stand for themselves is put
-pub put_run : (a b c : Output) (whole rest run behind : List ℕ) (n : ℕ) → IsPutBut a whole (quoted_bytes rest) b → IsPut b run c
-    → n ≡ prefix_len is_itself rest → run ≡ take n rest → behind ≡ drop n rest
+pub put_run : {a b c : Output} {whole : List ℕ} (rest : List ℕ) {run behind : List ℕ} (n : ℕ)
+    → IsPutBut a whole (quoted_bytes rest) b → IsPut b run c → n ≡ prefix_len is_itself rest → run ≡ take n rest → behind ≡ drop n rest
     → IsPutBut a whole (quoted_bytes behind) c
-put_run a b c whole rest run behind n p q e f g =
+put_run rest {run} {behind} n p q e f g =
     let parts : quoted_bytes rest ≡ run ++ quoted_bytes behind =
     run_written rest ∙ ap (λ k. take k rest ++ quoted_bytes (drop k rest)) (sym e) ∙ ap (λ xs. xs ++ quoted_bytes (drop n rest)) (sym f)
     ∙ ap (λ xs. run ++ quoted_bytes xs) (sym g) in
-    put_more a b c whole (quoted_bytes rest) run (quoted_bytes behind) p q parts
+    put_more (quoted_bytes rest) (quoted_bytes behind) p q parts
 
 -- an escape is put
-pub put_one : (a b c : Output) (whole rest behind : List ℕ) (byte : ℕ) → IsPutBut a whole (quoted_bytes rest) b
+pub put_one : {a b c : Output} {whole : List ℕ} (rest behind : List ℕ) (byte : ℕ) → IsPutBut a whole (quoted_bytes rest) b
     → IsPut b (quoted_byte byte) c → rest ≡ byte ∷ behind
     → IsPutBut a whole (quoted_bytes behind) c
-put_one a b c whole rest behind byte p q e = put_more a b c whole (quoted_bytes rest) (quoted_byte byte) (quoted_bytes behind) p q
-    (ap quoted_bytes e)
+put_one rest behind byte p q e = put_more (quoted_bytes rest) (quoted_bytes behind) p q (ap quoted_bytes e)
 
-pub put_in_quotes : (a b c d : Output) (bytes : List ℕ) → false ≡ is_bare_atom bytes → IsPut a (34 ∷ []) b
+pub put_in_quotes : {a b c d : Output} (bytes : List ℕ) → false ≡ is_bare_atom bytes → IsPut a (34 ∷ []) b
     → IsPut b (quoted_bytes bytes) c → IsPut c (34 ∷ []) d → IsPut a (atom_text bytes) d
-put_in_quotes a b c d bytes e p q r = subst (λ xs. IsPut a xs d) (sym (quoted_written bytes e))
-    (put_three a b c d (34 ∷ []) (quoted_bytes bytes) (34 ∷ []) p q r)
+put_in_quotes {a} {b} {c} {d} bytes e p q r = subst (λ xs. IsPut a xs d) (sym (quoted_written bytes e))
+    (put_three p q r)
 
 -- ---- lists
 
@@ -113,20 +113,20 @@ texts_after None vs = texts vs
 texts_after (Some b) vs = texts_behind (meaning b.now) vs
 
 -- a value of a list is put, behind what stands between it and the one before
-pub put_value : (a b c d : Output) (whole : List ℕ) (before : Option (Bor Sexp)) (sexp : Sexp) (rest more : List Sexp)
+pub put_value : {a b c d : Output} {whole : List ℕ} (before : Option (Bor Sexp)) (sexp : Sexp) (rest more : List Sexp)
     → IsPutBut a whole (texts_after before (values (map meaning rest))) b
     → MatchOption before (c ≡ b) (λ p. IsPut b (between (meaning p.now) (meaning sexp)) c) → IsPut c (text (meaning sexp)) d
     → rest ≡ sexp ∷ more
     → IsPutBut a whole (texts_behind (meaning sexp) (values (map meaning more))) d
-put_value a b c d whole None sexp rest more p q r e =
+put_value {d = d} None sexp rest more p q r e =
     let here = subst (λ o. IsPut o (text (meaning sexp)) d) q r in
-    put_more a b d whole (texts (values (map meaning rest))) (text (meaning sexp))
+    put_more (texts (values (map meaning rest)))
     (texts_behind (meaning sexp) (values (map meaning more))) p here (ap (λ xs. texts (values (map meaning xs))) e)
-put_value a b c d whole (Some before) sexp rest more p q r e =
+put_value {b = b} {c = c} {d = d} (Some before) sexp rest more p q r e =
     let gap = between (meaning before.now) (meaning sexp) in
     let one = text (meaning sexp) in
     let others = texts_behind (meaning sexp) (values (map meaning more)) in
-    put_more a b d whole (texts_behind (meaning before.now) (values (map meaning rest))) (gap ++ one) others p
+    put_more (texts_behind (meaning before.now) (values (map meaning rest))) others p
     (IsPut-both b c d gap one q r)
     (ap (λ xs. texts_behind (meaning before.now) (values (map meaning xs))) e ∙ sym (append_assoc gap one others))
 
@@ -141,10 +141,10 @@ nesting_behind sexp rest more e h =
     ap (λ xs. nesting_of_all (values (map meaning xs))) e in
     omega (arith, h, both)
 
-pub put_in_parentheses : (a b c d : Output) (sexp : Sexp) (sexps : Vec Sexp Global) (xs : List Sexp) → sexp ≡ made.List sexps
+pub put_in_parentheses : {a b c d : Output} {sexp : Sexp} (sexps : Vec Sexp Global) {xs : List Sexp} → sexp ≡ made.List sexps
     → xs ≡ sexps.items
     → IsPut a (40 ∷ []) b → IsPut b (texts (values (map meaning xs))) c → IsPut c (41 ∷ []) d → IsPut a (text (meaning sexp)) d
-put_in_parentheses a b c d sexp sexps xs e f p q r =
+put_in_parentheses {a} {d = d} {sexp} sexps {xs} e f p q r =
     let whole : text (meaning sexp) ≡ (40 ∷ []) ++ (texts (values (map meaning xs)) ++ 41 ∷ []) = ap (λ s. text (meaning s)) e
     ∙ ap text (meaning_List sexps) ∙ ap (λ ys. 40 ∷ (texts (values (map meaning ys)) ++ 41 ∷ [])) (sym f) in
-    subst (λ ys. IsPut a ys d) (sym whole) (put_three a b c d (40 ∷ []) (texts (values (map meaning xs))) (41 ∷ []) p q r)
+    subst (λ ys. IsPut a ys d) (sym whole) (put_three p q r)

@@ -28,11 +28,12 @@ behind_step limit from n s b rest made = elim made [
   | shown kind back ↦ bad kind (from + n - back)
 ]
 
-found_from-byte : (limit from n : ℕ) (s : State) (b : ℕ) (rest : List ℕ) (made : Step) → (not (is_behind s b) && nat_le limit n) ≡ false
-    → step s b ≡ made → found_from limit from n s (b ∷ rest) ≡ behind_step limit from n s b rest made
-found_from-byte limit from n s b rest made e f =
-    ap (λ t. if t then bad TooLong (from + n) else behind_step limit from n s b rest (step s b)) e
-    ∙ ap (behind_step limit from n s b rest) f
+module _ (limit from n : ℕ) (s : State) (b : ℕ) (rest : List ℕ) (made : Step) where
+  found_from-byte : (not (is_behind s b) && nat_le limit n) ≡ false
+      → step s b ≡ made → found_from limit from n s (b ∷ rest) ≡ behind_step limit from n s b rest made
+  found_from-byte e f =
+      ap (λ t. if t then bad TooLong (from + n) else behind_step limit from n s b rest (step s b)) e
+      ∙ ap (behind_step limit from n s b rest) f
 
 found_from-too_long : (limit from n : ℕ) (s : State) (b : ℕ) (rest : List ℕ) → (not (is_behind s b) && nat_le limit n) ≡ true
     → found_from limit from n s (b ∷ rest) ≡ bad TooLong (from + n)

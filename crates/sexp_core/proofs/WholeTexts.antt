@@ -41,29 +41,34 @@ Decides bytes None = (v : Value) → IsTextOf bytes v → ⊥
 Decides bytes (Some (Bad offset kind)) = (v : Value) → IsTextOf bytes v → ⊥
 Decides bytes (Some (ValueItem sexp from to)) = IsCandidate bytes (meaning sexp)
 
-decides : (bytes : List ℕ) (r new : Reading) (o : Option Item) → r ≡ lined bytes → length bytes < 2 ^ 64 → Gives r o new
-    → IfSome o (λ i. IsOfBytes (item_meaning i))
-    → IfSome o (λ i. IsShallow (item_meaning i)) → Decides bytes o
-unfolding item_in
-decides bytes r new None e h g b s = λ v t. let same = only_item bytes r v None e h t g.0 in cc
-decides bytes r new (Some (Bad offset kind)) e h g b s = λ v t.
-    let same : Some (bad_item offset kind) ≡ Some (value_item v 0 (0 + length bytes)) =
-    only_item bytes r v (Some (record { item = bad_item offset kind; rest = new.unread })) e h t g.0 in
-    cc
-decides bytes r new (Some (ValueItem sexp from to)) e h g b s =
-    let first : Taken = record { item = value_item (meaning sexp) from to; rest = new.unread } in
-    record {
-      of_bytes = b;
-      shallow = s;
-      only = λ v t. let same : Some (value_item (meaning sexp) from to) ≡ Some (value_item v 0 (0 + length bytes)) =
-          only_item bytes r v (Some first) e h t g.0 in cc;
-    }
+module _ (bytes : List ℕ) (r new : Reading) where
+  decides : (o : Option Item) → r ≡ lined bytes → length bytes < 2 ^ 64 → Gives r o new
+      → IfSome o (λ i. IsOfBytes (item_meaning i))
+      → IfSome o (λ i. IsShallow (item_meaning i)) → Decides bytes o
+  unfolding item_in
+  decides None e h g b s = λ v t. let same = only_item bytes r v None e h t g.0 in cc
+  decides (Some (Bad offset kind)) e h g b s = λ v t.
+      let same : Some (bad_item offset kind) ≡ Some (value_item v 0 (0 + length bytes)) =
+      only_item bytes r v (Some (record { item = bad_item offset kind; rest = new.unread })) e h t g.0 in
+      cc
+  decides (Some (ValueItem sexp from to)) e h g b s =
+      let first : Taken = record { item = value_item (meaning sexp) from to; rest = new.unread } in
+      record {
+        of_bytes = b;
+        shallow = s;
+        only = λ v t. let same : Some (value_item (meaning sexp) from to) ≡ Some (value_item v 0 (0 + length bytes)) =
+            only_item bytes r v (Some first) e h t g.0 in cc;
+      }
 
--- a reader that was fed the bytes and a byte 10 gives an item first, or none
-pub decided : (bytes : List ℕ) {r0 r1 r2 : Reading} (new : Reading) (o p : Option Item)
-    → r0 ≡ record { unread = fresh; limit = 2 ^ 64 - 1 } → r1 ≡ record { unread = fed r0.unread bytes; limit = r0.limit }
-    → r2 ≡ record { unread = fed r1.unread (10 ∷ []); limit = r1.limit } → length bytes < 2 ^ 64 → Gives r2 o new
-    → IfSome o (λ i. IsOfBytes (item_meaning i))
-    → IfSome o (λ i. IsShallow (item_meaning i)) → o ≡ p → Decides bytes p
-decided bytes {r0 = r0} {r1 = r1} {r2 = r2} new o p e f g h given b s is =
-    subst (Decides bytes) is (decides bytes r2 new o (lined_is bytes r0 r1 r2 e f g) h given b s)
+-- a new reader, one that was fed the bytes, and one that was fed a byte 10 behind them
+pub record AreFed (bytes : List ℕ) (r0 r1 r2 : Reading) : Type 0 where
+  pub new : r0 ≡ record { unread = fresh; limit = 2 ^ 64 - 1 }
+  pub fed_bytes : r1 ≡ record { unread = fed r0.unread bytes; limit = r0.limit }
+  pub fed_line : r2 ≡ record { unread = fed r1.unread (10 ∷ []); limit = r1.limit }
+  pub short : length bytes < 2 ^ 64
+
+-- the last of them gives an item first, or none
+pub decided : {bytes : List ℕ} {r0 r1 r2 : Reading} (new : Reading) {o p : Option Item} → AreFed bytes r0 r1 r2 → Gives r2 o new
+    → IfSome o (λ i. IsOfBytes (item_meaning i)) → IfSome o (λ i. IsShallow (item_meaning i)) → o ≡ p → Decides bytes p
+decided {bytes} {r0} {r1} {r2} new {o} f given b s is =
+    subst (Decides bytes) is (decides bytes r2 new o (lined_is bytes r0 r1 r2 f.new f.fed_bytes f.fed_line) f.short given b s)

@@ -13,7 +13,7 @@ use Rattle.env_theory.specs.Heads.{head_form}
 use Rattle.env_theory.proofs.Members.{found_name}
 use Rattle.base_core.specs.Answers.{and_then}
 use Rattle.elab_theory.specs.Faults.{Fault as TypingFault}
-use Rattle.elab_theory.specs.Locals.{sorts_in, Known, bound, assumed as known_assumed, declared as known_declared, unknown}
+use Rattle.elab_theory.specs.Locals.{local_of, locals_in, sorts_in, Known, bound, assumed as known_assumed, declared as known_declared, unknown}
 use Rattle.elab_theory.specs.Expressions.{span_of, of_sort, term_of, formula_of}
 use Rattle.elab_theory.proofs.Formed.{IsKnown, is_known, term_formed, formula_formed, of_sort_formed}
 use Rattle.elab_theory.proofs.Results.{steps}
@@ -23,8 +23,6 @@ use Rattle.tactic_theory.specs.Names.{hypothesis_named}
 use Rattle.tactic_theory.specs.Faults.{Fault, from_typing}
 use Rattle.tactic_theory.specs.Evidence.{Evidence, with_term, with_proof, shows, IsTyped}
 use Rattle.tactic_theory.specs.Typing.{
-  local_of,
-  locals_in,
   meaning,
   start,
   with_argument,

@@ -5,16 +5,13 @@ use Rattle.vern_grammar.specs.Trees.{Name, Expression, constant, application, bi
 use Rattle.vern_grammar.specs.Trees as tree
 use Rattle.vern_sentence.specs.Trees as sentence
 use Rattle.fol_theory.specs.Syntax.{Term, Formula, implies, all}
-use Rattle.fol_theory.specs.Contexts.{Entry, variable, hypothesis}
 use Rattle.fol_theory.specs.Slots.{Slot}
 use Rattle.env_theory.specs.Declarations.{Declaration, sort, function, predicate, stated, term, formula}
 use Rattle.env_theory.specs.Heads.{head_form}
 use Rattle.base_core.specs.Answers.{and_then}
 use Rattle.elab_theory.specs.Faults.{Fault as TypingFault, unknown_name, wrong_kind}
 use Rattle.elab_theory.specs.Locals.{
-  Local,
-  variable as local_variable,
-  hypothesis as local_hypothesis,
+  locals_in,
   Known,
   bound,
   assumed as known_assumed,
@@ -30,16 +27,6 @@ use Rattle.tactic_theory.specs.Evidence.{Evidence, assumed, declared, with_term,
 use Rattle.tactic_theory.specs.Refinements as refinement
 
 -- ---- names
-
--- an entry of a context with its name, as typing sees it
-abbrev pub local_of : List ℕ → Entry → Local
-local_of n (variable s) = local_variable n s
-local_of n (hypothesis a) = local_hypothesis n
-
--- a context as typing sees it
-abbrev pub locals_in : List Slot → List Local
-locals_in [] = []
-locals_in (x ∷ c) = local_of x.name x.entry ∷ locals_in c
 
 -- what a name stands for in a context
 abbrev pub meaning : List Declaration → List Slot → List ℕ → Known

@@ -1,7 +1,8 @@
 -- The slots of the theory that a context stands for, the newest first, and the sequent that a sequent stands for.
-use Rattle.std.specs.Prelude.{List, [], ◌∷◌}
+use Rattle.std.specs.Prelude.{◌≡◌, ℕ, List, [], ◌∷◌, ◌++◌, length}
 use Rattle.std.specs.Arc.{arc_value}
-use Rattle.fol_theory.specs.Contexts.{variable, hypothesis, Sequent as Meaning}
+use Rattle.fol_theory.specs.Syntax.{Formula}
+use Rattle.fol_theory.specs.Contexts.{Entry, variable, hypothesis, variables, count, Sequent as Meaning}
 use Rattle.fol_theory.specs.Slots.{Slot as SlotMeaning, slot, entries}
 use Rattle.term_core.specs.Formula as formula
 use Rattle.term_core.specs.declared.context.Slot.{Slot}
@@ -28,3 +29,8 @@ slots = fold-Context (List SlotMeaning) slots_step
 -- the sequent that a sequent stands for, without the names of its slots
 abbrev pub meaning : Sequent → Meaning
 meaning s = record { context = entries (slots s.context); goal = formula.meaning s.goal }
+
+-- the hypothesis i of the entries, counted from the oldest, from 0, is a as it stands in its own entry, behind n newer variables
+abbrev pub Stands : List Entry → ℕ → Formula → ℕ → Type 0
+Stands c i a n = (newer : List Entry) × (older : List Entry)
+    × (c ≡ newer ++ hypothesis a ∷ older) × (i ≡ count older) × (n ≡ length (variables newer))

@@ -1,9 +1,9 @@
 //! Contexts and sequents.
-ghost use Rattle.std.specs.Prelude.{◌≡◌, ◌≤◌, [], ◌∷◌, ◌++◌, map, IfOk, MatchOption};
+ghost use Rattle.std.specs.Prelude.{◌≡◌, ◌≤◌, [], ◌∷◌, ◌++◌, map, IfOk, IfSome, MatchOption};
 ghost use Rattle.fol_theory.specs.Contexts.{count, IsHypothesis};
 ghost use Rattle.fol_theory.specs.Slots.{entries, slots_without, from_name};
 ghost use Rattle.fol_theory.specs.Substitution.{shift};
-ghost use Rattle.term_core.specs.Context.{slot_meaning, slots, meaning};
+ghost use Rattle.term_core.specs.Context.{slot_meaning, slots, meaning, Stands};
 ghost use Rattle.term_core.specs.Formula as formula;
 
 use crate::{Formula, Name};
@@ -153,8 +153,9 @@ impl Context {
     /// `NoMemory` comes only where 64 bits don't hold a count.
     #[tactic(auto, using(crate::proofs::Layers::layers))]
     pub fn hypothesis(&self, number: u64) -> Result<Option<(&Formula, u64)>, NoMemory>
-        ensures { IfOk result (λ r. MatchOption r (count (entries (slots self.now)) ≤ number)
+        ensures numbered { IfOk result (λ r. MatchOption r (count (entries (slots self.now)) ≤ number)
             (λ p. IsHypothesis (entries (slots self.now)) number (shift 0 p.1 (formula.meaning p.0.now)))) }
+        ensures placed { IfOk result (λ r. IfSome r (λ p. Stands (entries (slots self.now)) number (formula.meaning p.0.now) p.1)) }
     {
         let mut left = self.count()?;
         if left <= number {

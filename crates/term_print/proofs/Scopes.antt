@@ -37,7 +37,8 @@ use Rattle.std.specs.Fmt.{decimal}
 use Rattle.std.proofs.lemmas.Bool.{cases_lt}
 use Rattle.std.proofs.lemmas.List.{drop_all}
 use Rattle.std.proofs.lemmas.Fmt.{decimal-digits_of, decimal_digit}
-use Rattle.print_theory.specs.Names.{is_among, name_of, numeral, numbered, free_from}
+use Rattle.elab_theory.specs.Sentences.{is_among}
+use Rattle.print_theory.specs.Names.{name_of, numeral, numbered, free_from}
 use Rattle.print_theory.specs.Printing.{bound_name}
 use Rattle.print_theory.proofs.Picks.{among_append, not_in_first, or_left, picked_unused}
 use Rattle.term_print.specs.Output.{Names, names_onto, all_names, used_names}

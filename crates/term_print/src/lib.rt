@@ -10,6 +10,8 @@
 mod operators;
 mod printing;
 mod scope;
+#[cfg(test)]
+mod tests;
 mod text;
 
 pub use printing::{show, show_term, show_with};

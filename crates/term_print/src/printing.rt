@@ -2,7 +2,10 @@
 ghost use Rattle.std.specs.Prelude.{◌≡◌, ◌≤◌, ◌∷◌, ℕ, List, length, IfOk, OnOk, nat_lt};
 ghost use Rattle.std.specs.List.{All};
 ghost use Rattle.vern_sentence.specs.Names.{IsFreeName};
-ghost use Rattle.print_theory.specs.Reading.{ReadsAs};
+ghost use Rattle.env_theory.specs.Declarations.{Declaration};
+ghost use Rattle.elab_theory.specs.Locals.{Local};
+ghost use Rattle.print_theory.specs.Reading.{IsShown, IsShownTerm, ReadsAs};
+ghost use Rattle.print_theory.specs.Typed.{IsPlaced, IsPlacedTerm, IsTermTypedAs, IsTypedAs};
 ghost use Rattle.print_theory.specs.Trees.{formula_tree, term_tree};
 ghost use Rattle.fol_theory.specs.Syntax.{Terms as ListMeaning};
 ghost use Rattle.print_theory.specs.Printing.{
@@ -50,6 +53,8 @@ pub fn show(formula: &Formula, names: &Names, taken: &Names) -> Result<Bytes, No
     ensures reads { IfOk result (λ text. All IsFreeName names.now.items → IsPrintable (length names.now.items) (meaning formula.now)
         → formula_openings quantifier_level (meaning formula.now) ≤ limit
         → ReadsAs text (formula_tree names.now.items taken.now.items (meaning formula.now))) }
+    ensures typed { IfOk result (λ text. (E : List Declaration) (c : List Local) → IsShown names.now.items (meaning formula.now)
+        → IsPlaced E c names.now.items taken.now.items (meaning formula.now) → IsTypedAs E c text (meaning formula.now)) }
 {
     show_with(formula, names, taken)
 }
@@ -60,6 +65,8 @@ pub fn show_with<T: Taken>(formula: &Formula, names: &Names, taken: &T) -> Resul
     ensures reads { IfOk result (λ text. All IsFreeName names.now.items → IsPrintable (length names.now.items) (meaning formula.now)
         → formula_openings quantifier_level (meaning formula.now) ≤ limit
         → ReadsAs text (formula_tree names.now.items (T.taken taken.now) (meaning formula.now))) }
+    ensures typed { IfOk result (λ text. (E : List Declaration) (c : List Local) → IsShown names.now.items (meaning formula.now)
+        → IsPlaced E c names.now.items (T.taken taken.now) (meaning formula.now) → IsTypedAs E c text (meaning formula.now)) }
 {
     let alloc = *names.allocator();
     let mut text = Text::new(alloc);
@@ -75,6 +82,10 @@ pub fn show_term(term: &Term, names: &Names, taken: &Names) -> Result<Bytes, NoM
     ensures reads { IfOk result (λ text. All IsFreeName names.now.items → IsPrintableTerm (length names.now.items) (term_meaning term.now)
         → term_openings quantifier_level (term_meaning term.now) ≤ limit
         → ReadsAs text (term_tree names.now.items (term_meaning term.now))) }
+    ensures typed { IfOk result (λ text. (E : List Declaration) (c : List Local) (s : List ℕ)
+        → IsShownTerm names.now.items (term_meaning term.now)
+        → IsPlacedTerm E c names.now.items taken.now.items (term_meaning term.now) s
+        → IsTermTypedAs E c text (term_meaning term.now) s) }
 {
     let alloc = *names.allocator();
     let mut text = Text::new(alloc);

@@ -1,6 +1,7 @@
 //! The names of variables while a formula is written.
 ghost use Rattle.std.specs.Prelude.{◌≡◌, ◌++◌, ◌-◌, ◌∷◌, [], false, length, take, IfOk, OnOk};
-ghost use Rattle.print_theory.specs.Names.{free_from, is_among, name_of, numbered};
+ghost use Rattle.elab_theory.specs.Sentences.{is_among};
+ghost use Rattle.print_theory.specs.Names.{free_from, name_of, numbered};
 ghost use Rattle.print_theory.specs.Printing.{bound_name};
 ghost use Rattle.term_print.specs.Output.{all_names, used_names};
 

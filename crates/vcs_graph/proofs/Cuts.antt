@@ -1,5 +1,30 @@
 -- All behind a place goes.
-use Rattle.std.proofs.Common.{◌≡◌, ℕ, zero, suc, ◌+◌, ◌<◌, ◌≤◌, List, [], ◌∷◌, ◌++◌, length, take, true, false, refl, sym, ap, subst, ◌∙◌, arith, length-append, append-nil, slice_index_or}
+use Rattle.std.proofs.Common.{
+  ◌≡◌,
+  ℕ,
+  zero,
+  suc,
+  ◌+◌,
+  ◌<◌,
+  ◌≤◌,
+  List,
+  [],
+  ◌∷◌,
+  ◌++◌,
+  length,
+  take,
+  true,
+  false,
+  refl,
+  sym,
+  ap,
+  subst,
+  ◌∙◌,
+  arith,
+  length-append,
+  append-nil,
+  slice_index_or,
+}
 use Rattle.indexmap.specs.IndexMap.{IndexMap}
 use Rattle.line_theory.specs.Shapes.{Item, lone, block, End, closed, proof}
 use Rattle.line_theory.specs.Lines.{Closing}
@@ -10,19 +35,6 @@ use Rattle.vcs_graph.specs.Parts.{first_of, inside_of, keep, kept_before, opens_
 use Rattle.vcs_graph.specs.Table.{IsTable, inner_places, item_places, items_places, end_places, all_places}
 use Rattle.vcs_graph.proofs.Places.{items_join}
 use Rattle.vcs_graph.proofs.Befores.{parted_by}
-
-pub take_count : {A : Type 0} (k : ℕ) (b : List A) → k ≤ length b → length (take k b) ≡ k
-take_count zero b h = refl
-take_count (suc k) [] h = absurd (omega arith)
-take_count (suc k) (x ∷ b) h = ap suc (take_count k b (omega arith))
-
--- of a list up to a place, what was popped is what stood there
-pub popped : {A : Type 0} (xs is ps : List A) (s : A) (k n : ℕ) → n ≡ suc k → k < length xs → is ≡ take n xs →
-    is ≡ ps ++ (s ∷ []) → (d : A) → slice_index_or is k d ≡ s
-popped xs is ps s k n g h e f d =
-    let c : length is ≡ n = ap length e ∙ take_count n xs (omega arith) in
-    let l : length is ≡ length ps + 1 = ap length f ∙ length-append ps (s ∷ []) in
-    (parted_by ps s [] is k f (omega arith)).1 d
 
 -- up to an item
 pub front_more : {A : Type 0} (f t xs : List A) (x : A) (k n : ℕ) → n ≡ suc k → xs ≡ f ++ (x ∷ t) → length f ≡ k → take n xs ≡ f ++ (x ∷ [])

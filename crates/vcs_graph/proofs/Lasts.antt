@@ -45,10 +45,6 @@ pub last_join : (n : ℕ) (a b : List ℕ) → last_or n (a ++ b) ≡ last_or (l
 last_join n [] b = refl
 last_join n (x ∷ a) b = last_join x a b
 
-pub last_none : (n : ℕ) (b : List ℕ) → length b ≡ 0 → last_or n b ≡ n
-last_none n [] h = refl
-last_none n (x ∷ b) h = absurd (omega arith)
-
 -- the last id of some items is that of the last
 pub last_items : (n : ℕ) (xs : List (Item ℕ Closing)) → 0 < length xs → (x : Item ℕ Closing) →
     x ≡ slice_index_or xs (length xs - 1) x → (r : ℕ) → ((m : ℕ) → r ≡ last_or m (item_ids x)) → r ≡ last_or n (items_ids xs)
@@ -64,10 +60,6 @@ last_items n xs h x e r f =
     empty : {A : Type 0} (ys : List A) → length ys ≡ 0 → ys ≡ []
     empty [] h = refl
     empty (y ∷ ys) h = absurd (omega arith)
-
-pub last_of_none : (n : ℕ) (xs : List (Item ℕ Closing)) → length xs ≡ 0 → last_or n (items_ids xs) ≡ n
-last_of_none n [] h = refl
-last_of_none n (x ∷ xs) h = absurd (omega arith)
 
 pub last_at : (n d k : ℕ) (b : List ℕ) → k + 1 ≡ length b → get_or b k d ≡ last_or n b
 last_at n d k b h = at_last n d k b (omega arith)
@@ -111,12 +103,6 @@ before_some n j k b e h = before_number n 0 k b h (omega arith) ∙ ap (λ z. la
 pub pred_is : (n : ℕ) → n - 1 ≡ pred n
 pred_is zero = omega arith
 pred_is (suc n) = omega arith
-
--- what stands inside of a block before a number, counted from 1
-pub before_first : (n k : ℕ) (b : List ℕ) → min k (length b) ≡ 0 → n ≡ last_or n (take k b)
-before_first n zero b h = refl
-before_first n (suc k) [] h = refl
-before_first n (suc k) (x ∷ b) h = absurd (omega arith)
 
 pub before_all : (n k : ℕ) (b : List ℕ) → k ≡ length b → 0 < k → get_or b (k - 1) 0 ≡ last_or n b
 before_all n k b e h = before_number n 0 k b h (omega arith) ∙ ap (λ z. last_or n z) (ap (λ y. take y b) e ∙ take_whole b)

@@ -14,3 +14,6 @@ pub mod Absent
 pub mod Seated
 pub mod Listed
 pub mod Cleared
+pub mod Sums
+pub mod SizesOf
+pub mod Sized

@@ -114,9 +114,6 @@ pub up_push : (f : List (Item ℕ Closing)) (l i : ℕ) (b : List ℕ) → up_to
 up_push f l i b =
     rw (inner_push (length f) 1 (suc (length b)) i b (omega arith)) (simp append_assoc)
 
-pub end_around : (a : List (Item ℕ Closing)) (l : ℕ) (b : List ℕ) → all_places a (proof l b) ≡ up_to a l b
-end_around a l b = refl
-
 -- ---- one item of the list
 
 -- a list around the item with a number

@@ -1,5 +1,42 @@
 -- A zone that is opened.
-use Rattle.std.proofs.Common.{◌≡◌, ◌⊎◌, inl, inr, ℕ, zero, suc, ◌+◌, ◌<◌, ◌≤◌, nat_eq, List, [], ◌∷◌, ◌++◌, length, take, drop, Bool, true, false, cond, Option, Some, None, refl, sym, ap, subst, ◌∙◌, arith, length-append, append_assoc, slice_set, slice_index_or}
+use Rattle.std.proofs.Common.{
+  ◌≡◌,
+  ◌⊎◌,
+  inl,
+  inr,
+  ℕ,
+  zero,
+  suc,
+  ◌+◌,
+  ◌<◌,
+  ◌≤◌,
+  nat_eq,
+  List,
+  [],
+  ◌∷◌,
+  ◌++◌,
+  length,
+  take,
+  drop,
+  Bool,
+  true,
+  false,
+  cond,
+  Option,
+  Some,
+  None,
+  refl,
+  sym,
+  ap,
+  subst,
+  ◌∙◌,
+  arith,
+  length-append,
+  length-take-le,
+  append_assoc,
+  slice_set,
+  slice_index_or,
+}
 use Rattle.std.specs.Prelude.{is_some}
 use Rattle.line_theory.specs.Lists.{has}
 use Rattle.indexmap.specs.IndexMap.{IndexMap, index_map_len}
@@ -369,11 +406,6 @@ opening_room {a = a} {o = o} {n = n} {kept = kept} {z = z} {m = m} k w =
           length-append b (c.id ∷ []),
         )
 
-take_count : (k : ℕ) (b : List ℕ) → k ≤ length b → length (take k b) ≡ k
-take_count zero b h = refl
-take_count (suc k) [] h = absurd (omega arith)
-take_count (suc k) (x ∷ b) h = ap suc (take_count k b (omega arith))
-
 pub opened_at : {a : List (Item ℕ Closing)} {o : End ℕ} {z : Option Opened} {n kept : ℕ} {d : Line} (w : Opening a o z n kept d)
     (x v : Item ℕ Closing) → x ≡ slice_index_or a n x
     → v ≡ with_inside (take kept (inside_of x)) x → (s : ℕ) → s ≡ length (items_ids (take n a))
@@ -382,7 +414,7 @@ opened_at {a = a} {o = o} {n = n} {kept = kept} w x v xe ve s se =
     let t : length (items_ids w.before ++ (w.lemma ∷ take kept w.inside)) ≡ length (items_ids w.before) + length
     (w.lemma ∷ take kept w.inside) = length-append (items_ids w.before) (w.lemma ∷ take kept w.inside) in
     let u : s ≡ length (items_ids w.before) = se ∙ ap (λ y. length (items_ids y)) (opening_taken w) in
-    let r : length (take kept w.inside) ≡ kept = take_count kept w.inside w.fits in
+    let r : length (take kept w.inside) ≡ kept = length-take-le kept w.inside w.fits in
     let here : s + kept + 1 ≡ length (items_ids w.before ++ (w.lemma ∷ take kept w.inside)) = omega (arith, t, u, r) in
     here ∙ sym (ap (λ y. length (front y)) (ap (λ y. line_of y o (Some (record { item = n; start = s }))) (opening_set w x xe v ve)
     ∙ opened_line w.before w.lemma (take kept w.inside) w.closer w.rest o (record { item = n; start = s }) w.count))

@@ -7,3 +7,4 @@ pub mod Blocks
 pub mod Sites
 pub mod Removals
 pub mod Branches
+pub mod Sums

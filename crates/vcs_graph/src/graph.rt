@@ -48,6 +48,7 @@ ghost use Rattle.line_theory.specs.Edits.{seat, lost};
 ghost use Rattle.vcs_graph.specs.Blocks.{block_in, open_in};
 ghost use Rattle.vcs_graph.specs.Branches.{Branches, branched, IsZone};
 ghost use Rattle.vcs_graph.specs.GraphView.{IsStart};
+ghost use Rattle.vcs_graph.specs.Sums.{sum_to};
 ghost use Rattle.vcs_graph.specs.Removals.{Stands, cleared, Narrows, narrowed};
 ghost use Rattle.vcs_graph.specs.Sites.{seat_site, place_site};
 
@@ -58,7 +59,8 @@ use crate::list::{put_items, put_rest};
 use crate::place::{Part, Place};
 use crate::segment::{Closer, Segment, open_site};
 use crate::site::Site;
-use crate::table::{Places, find, put};
+use crate::sizes::Sizes;
+use crate::table::{Places, find, put, put_sized};
 use base_core::{Ids, NoMemory, SparedSequence};
 use indexmap::IndexMap;
 use std::alloc::Global;
@@ -92,6 +94,7 @@ pub enum Branch {
 #[derive(Drop)]
 pub struct Graph {
     items: Vec<Segment>,
+    sizes: Sizes,
     ending: Ending,
     zone: Option<Opened>,
     places: Places,
@@ -102,11 +105,11 @@ impl Model for Graph {
 
     ghost Value = { Line };
 
-    ghost use Rattle.vcs_graph.specs.GraphView.{line_of, Kept};
+    ghost use Rattle.vcs_graph.specs.GraphView.{line_of, Whole};
 
     ghost view = { λ g. line_of g.items.items g.ending g.zone };
 
-    ghost invariant = { λ g. Kept g.items.items g.ending g.zone g.places };
+    ghost invariant = { λ g. Whole g.items.items g.ending g.zone g.places g.sizes };
 }
 
 impl Graph {
@@ -117,6 +120,7 @@ impl Graph {
     {
         Ok(Graph {
             items: Vec::new(alloc),
+            sizes: Sizes::new(alloc),
             ending: Ending::new(alloc),
             zone: None,
             places: IndexMap::new(alloc),
@@ -273,6 +277,7 @@ impl Graph {
             Some(zone) => {
                 let inside = self.items[zone.item].inside_len();
                 self.items[zone.item].grow(&mut self.places, zone.item, id)?;
+                self.sizes.set(zone.item, inside + 3);
                 Ok((zone.start + 1 + inside) as u64)
             }
             None => {
@@ -283,7 +288,13 @@ impl Graph {
                     let alloc = *self.items.allocator();
                     self.items.reserve(1)?;
                     let part = Part::First;
-                    put(&mut self.places, id, Place { item, part })?;
+                    put_sized(
+                        &mut self.sizes,
+                        1,
+                        &mut self.places,
+                        id,
+                        Place { item, part },
+                    )?;
                     self.items.push(Segment::lone(alloc, id))?;
                 }
                 Ok(at as u64)
@@ -335,8 +346,15 @@ impl Graph {
         let at = self.places.len();
         let item = self.items.len();
         let part = Part::Closer;
+        let size = self.ending.inside_len() + 2;
         self.items.reserve(1)?;
-        put(&mut self.places, id, Place { item, part })?;
+        put_sized(
+            &mut self.sizes,
+            size,
+            &mut self.places,
+            id,
+            Place { item, part },
+        )?;
         let segment = self.ending.close(Closer { id, opaque });
         self.items.push(segment)?;
         Ok(at as u64)
@@ -354,8 +372,9 @@ impl Graph {
             return 0;
         };
         let keep = keep_of(place.part);
-        let start = start_of(self.zone, &self.items.as_slice()[..place.item]);
+        let start = start_of(self.zone, &self.sizes, place.item);
         self.items[place.item].shorten(&mut self.places, keep);
+        self.sizes.set(place.item, keep + 2);
         self.zone = Some(Opened {
             item: place.item,
             start,
@@ -374,6 +393,7 @@ impl Graph {
         if id == 1 {
             self.ending.clear(&mut self.places);
             forget_items(&mut self.places, &mut self.items, 0);
+            self.sizes.truncate(0);
             return;
         }
         let Some(place) = found else {
@@ -381,6 +401,7 @@ impl Graph {
         };
         if place.item < self.items.len() {
             cut_behind(&mut self.items, &mut self.ending, &mut self.places, place);
+            self.sizes.truncate(self.items.len());
         } else {
             self.ending.shorten(&mut self.places, keep_of(place.part));
         }
@@ -401,6 +422,7 @@ impl Graph {
         self.zone = None;
         if place.item < self.items.len() {
             cut_from(&mut self.items, &mut self.ending, &mut self.places, place);
+            self.sizes.truncate(self.items.len());
         } else {
             self.ending.cut_from(&mut self.places, place.part);
         }
@@ -423,9 +445,10 @@ impl Graph {
             return;
         };
         let keep = number.saturating_sub(1);
-        let start = start_of(self.zone, &self.items.as_slice()[..place.item]);
+        let start = start_of(self.zone, &self.sizes, place.item);
         self.items[place.item].put_inside(keep, gone);
         self.items[place.item].shorten(&mut self.places, keep);
+        self.sizes.set(place.item, keep + 2);
         self.zone = Some(Opened {
             item: place.item,
             start,
@@ -468,25 +491,13 @@ fn last_of(items: &[Segment]) -> u64
     if len == 0 { 1 } else { items[len - 1].last() }
 }
 
-/// How many ids stand before the block in which a zone is opened, these items standing before it.
-fn start_of(zone: Option<Opened>, items: &[Segment]) -> usize
-    requires { length (items_ids items.now) < 2 ^ 63 }
-    ensures { IsStart zone (length (items_ids items.now)) result }
+/// How many ids stand before the item in which a zone is opened, the items having these sizes.
+fn start_of(zone: Option<Opened>, sizes: &Sizes, item: usize) -> usize
+    requires { item ≤ length sizes.now }
+    ensures { IsStart zone (sum_to item sizes.now) result }
 {
     match zone {
         Some(zone) => zone.start,
-        None => count(items),
+        None => sizes.sum_to(item),
     }
-}
-
-/// How many ids some items have.
-fn count(items: &[Segment]) -> usize
-    requires { length (items_ids items.now) < 2 ^ 63 }
-    ensures { result ≡ length (items_ids items.now) }
-{
-    let mut total: usize = 0;
-    for item in items {
-        total += item.len();
-    }
-    total
 }

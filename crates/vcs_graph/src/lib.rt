@@ -12,6 +12,7 @@ mod list;
 mod place;
 mod segment;
 mod site;
+mod sizes;
 mod table;
 
 pub use graph::{Block, Branch, Graph};

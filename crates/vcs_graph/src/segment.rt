@@ -203,17 +203,6 @@ impl Segment {
         forget_inside(places, &mut self.inside, keep);
     }
 
-    /// How many ids it has.
-    pub fn len(&self) -> usize
-        requires { length (item_ids self.now) < 2 ^ 63 }
-        ensures { result ≡ length (item_ids self.now) }
-    {
-        match self.closer {
-            Some(_) => self.inside.len() + 2,
-            None => 1,
-        }
-    }
-
     /// A part is listed, and all behind it in the item.
     pub fn put_from(&self, part: Part, list: &mut SparedSequence<u64>)
         requires room { length (item_ids self.now) ≤ list.old.spare }

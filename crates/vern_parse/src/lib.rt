@@ -19,14 +19,10 @@ mod read;
 mod reduce;
 mod refine;
 mod sentence;
-#[cfg(test)]
-mod sentence_tests;
 mod slot;
 mod source;
 mod stack;
 mod step;
-#[cfg(test)]
-mod tests;
 mod words;
 
 pub use fault::ParseFault;

@@ -1,7 +1,7 @@
 //! What the seat number 0 does: it begins and ends the lock, and other seats come from it and go back to it.
 ghost use Rattle.std.specs.Prelude.{◌≡◌, ◌≢◌, ℕ, ◌<◌, true, false, [], MatchResult};
 ghost use Rattle.doc_lock.specs.Views.{splitting, split_off, joining};
-ghost use Rattle.doc_lock.specs.Told.{Covers, Ends, IsBeside, IsOf, knows, seats_of, starting};
+ghost use Rattle.doc_lock.specs.Told.{Covers, Ends, IsBeside, IsOf, starting};
 
 use super::holder::put_home;
 use super::{DocLock, FLAG, STATE, Seat, SeatOf};
@@ -18,8 +18,8 @@ impl<S: Guarded> DocLock<S> {
     pub fn new(alloc: Global, state: S, seats: u32) -> Result<(DocLock<S>, Seat<S>), S>
         requires seats { 0 < seats }
         requires empty { S.list state ≡ [] }
-        ensures made { MatchResult result (λ t. (seats_of t.0 ≡ seats) × (IsOf t.0 t.1)
-            × (knows t.1 ≡ starting S.origin state)) (λ s. s ≡ state) }
+        ensures made { MatchResult result (λ t. (t.0.seats ≡ seats) × (IsOf t.0 t.1)
+            × (t.1.view ≡ starting S.origin state)) (λ s. s ≡ state) }
     {
         // The table begins with an empty slot and with the flag of seat 0, which takes the slot and puts the
         // state home.
@@ -45,11 +45,11 @@ impl<S: Guarded> DocLock<S> {
     /// A seat with the next number, which has seen as much. It takes no memory.
     pub fn split(&self, seat: &mut Seat<S>) -> Seat<S>
         requires lock { IsOf self.now seat.old }
-        requires first { ((knows seat.old).number ≡ 0) × ((knows seat.old).holds ≡ false) }
-        requires room { (knows seat.old).made < seats_of self.now }
+        requires first { (seat.old.view.number ≡ 0) × (seat.old.view.holds ≡ false) }
+        requires room { seat.old.view.made < self.now.seats }
         ensures lock { (IsBeside seat.old seat.new) × (IsBeside seat.old result) }
-        ensures first { knows seat.new ≡ splitting (knows seat.old) }
-        ensures new { knows result ≡ split_off (knows seat.old) }
+        ensures first { seat.new.view ≡ splitting seat.old.view }
+        ensures new { result.view ≡ split_off seat.old.view }
     {
         let number = seat.made;
         let place = self.table.shared.split_seat::<Cut>(&mut seat.place);
@@ -65,10 +65,10 @@ impl<S: Guarded> DocLock<S> {
     /// entries of both stand in the list, the next holding tells, or `close`.
     pub fn join_back(&self, seat: &mut Seat<S>, other: Seat<S>)
         requires lock { (IsOf self.now seat.old) × (IsOf self.now other) }
-        requires free { ((knows seat.old).holds ≡ false) × ((knows other).holds ≡ false) }
-        requires other { (knows other).number ≢ 0 }
+        requires free { (seat.old.view.holds ≡ false) × (other.view.holds ≡ false) }
+        requires other { other.view.number ≢ 0 }
         ensures lock { IsBeside seat.old seat.new }
-        ensures joined { knows seat.new ≡ joining (knows seat.old) (knows other) }
+        ensures joined { seat.new.view ≡ joining seat.old.view other.view }
     {
         let SeatOf {
             number: _,
@@ -82,9 +82,9 @@ impl<S: Guarded> DocLock<S> {
     /// with all that any seat had seen, and has of each number just the entries of that seat, each once.
     pub fn close(self, seat: Seat<S>) -> S
         requires lock { IsOf self seat }
-        requires last { ((knows seat).number ≡ 0) × ((knows seat).holds ≡ false) }
-        requires all { Covers (knows seat) }
-        ensures ends { Ends S.list S.author S.origin (knows seat) result }
+        requires last { (seat.view.number ≡ 0) × (seat.view.holds ≡ false) }
+        requires all { Covers seat.view }
+        ensures ends { Ends S.list S.author S.origin seat.view result }
     {
         let DocLock { table, seats: _ } = self;
         let SeatOf {

@@ -1,7 +1,7 @@
 //! What the seat does that holds the state.
 ghost use Rattle.std.specs.Prelude.{◌≡◌, ◌⊎◌, ℕ, true, false, [], ◌∷◌, Some, None};
 ghost use Rattle.doc_lock.specs.Lists.{Adds};
-ghost use Rattle.doc_lock.specs.Told.{IsBeside, IsWith, held_state, given_back, knows};
+ghost use Rattle.doc_lock.specs.Told.{IsBeside, IsWith, given_back};
 
 use super::{FLAG, Held, LENGTH, PlaceOf, STATE, Seat, SharedOf};
 use crate::guarded::Guarded;
@@ -32,11 +32,11 @@ impl<S: Guarded> Held<'_, S> {
     /// list as it is given back.
     pub fn give_back(self, seat: &mut Seat<S>)
         requires lock { IsWith self seat.old }
-        requires holds { (knows seat.old).holds ≡ true }
-        requires grown { Adds S.author (knows seat.old).number (knows seat.old).seen (S.list (held_state self)) }
-        requires origin { (knows seat.old).origin ≡ Some (S.origin (held_state self)) }
+        requires holds { seat.old.view.holds ≡ true }
+        requires grown { Adds S.author seat.old.view.number seat.old.view.seen (S.list self.state) }
+        requires origin { seat.old.view.origin ≡ Some (S.origin self.state) }
         ensures lock { IsBeside seat.old seat.new }
-        ensures seen { knows seat.new ≡ given_back S.list S.author S.origin (knows seat.old) (held_state self.entry) }
+        ensures seen { seat.new.view ≡ given_back S.list S.author S.origin seat.old.view self.entry.state }
     {
         let Held {
             lock,

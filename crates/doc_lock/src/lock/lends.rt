@@ -1,7 +1,7 @@
 //! The state of a holding, lent.
 ghost use Rattle.std.specs.Prelude.{◌≡◌, [], ◌∷◌};
 ghost use Rattle.std.specs.Borrow.{Lends, sem};
-ghost use Rattle.doc_lock.specs.Told.{held_state, with_state};
+ghost use Rattle.doc_lock.specs.Told.{with_state};
 ghost use mir.Syntax.{named};
 ghost use Rattle.doc_lock.specs.contracts.lock.Held.{the_row};
 
@@ -15,7 +15,7 @@ impl<S: Guarded> Held<'_, S> {
     pub fn state(&mut self) -> &mut S
         ensures* writes_back { sem 𝓛 (Lends (the_row (record { mir = named 1; lft = [] }) S.row S.Entry.row S.Origin.row S.Guarded) S.row
             self.entry result (with_state self.old)) }
-        ensures value { result.now ≡ held_state self.old }
+        ensures value { result.now ≡ self.old.state }
     {
         &mut self.state
     }

@@ -1,6 +1,6 @@
 //! What any seat does, whatever its number.
 ghost use Rattle.std.specs.Prelude.{◌≡◌, ℕ, ◌+◌, ◌<◌, ◌≢◌, true, false, [], ◌∷◌, length, Some, None};
-ghost use Rattle.doc_lock.specs.Told.{MatchTried, IsOf, IsBeside, IsHeldOf, Gets, GetsAtLast, Misses, Rests, held_state, knows};
+ghost use Rattle.doc_lock.specs.Told.{MatchTried, IsOf, IsBeside, IsHeldOf, Gets, GetsAtLast, Misses, Rests};
 
 use super::{DocLock, FLAG, Held, LENGTH, STATE, Seat, SeatOf, Tried};
 use crate::guarded::Guarded;
@@ -13,7 +13,7 @@ use std::sync::Wait;
 impl<S, E, O> SeatOf<S, E, O> {
     /// The seat's number.
     pub fn number(&self) -> u32
-        ensures number { result ≡ (knows self.now).number }
+        ensures number { result ≡ self.now.view.number }
     {
         self.number
     }
@@ -26,10 +26,10 @@ impl<S: Guarded> DocLock<S> {
     /// nothing is then told of the state.
     pub fn try_hold<'a>(&'a self, seat: &mut Seat<S>) -> Tried<'a, S>
         requires lock { IsOf self.now seat.old }
-        requires free { (knows seat.old).holds ≡ false }
+        requires free { seat.old.view.holds ≡ false }
         ensures lock { IsBeside seat.old seat.new }
         ensures tried { MatchTried result (λ h. (IsHeldOf self.now h)
-            × Gets S.list S.author S.origin (knows seat.old) (knows seat.new) (held_state h)) (Misses (knows seat.old) (knows seat.new)) }
+            × Gets S.list S.author S.origin seat.old.view seat.new.view h.state) (Misses seat.old.view seat.new.view) }
     {
         let flag = u64::from(seat.number) + 1;
         let shared = &self.table.shared;
@@ -48,9 +48,9 @@ impl<S: Guarded> DocLock<S> {
     /// Tries until it has the lock, and sleeps between two tries.
     pub fn hold<'a, R: Wait>(&'a self, rt: &R, seat: &mut Seat<S>) -> Held<'a, S>
         requires lock { IsOf self.now seat.old }
-        requires free { (knows seat.old).holds ≡ false }
+        requires free { seat.old.view.holds ≡ false }
         ensures lock { (IsBeside seat.old seat.new) × (IsHeldOf self.now result) }
-        ensures held { GetsAtLast S.list S.author S.origin (knows seat.old) (knows seat.new) (held_state result) }
+        ensures held { GetsAtLast S.list S.author S.origin seat.old.view seat.new.view result.state }
     {
         // No wake-up is lost, though no clause can say it. The flag is below 2^32, so `park` compares the whole
         // of it: it sleeps only if the flag still is what `peek` read, else it returns and the next try follows.
@@ -79,7 +79,7 @@ impl<S: Guarded> DocLock<S> {
     pub fn rest<R: Wait>(&self, rt: &R, seat: &mut Seat<S>, length: u64) -> u64
         requires lock { IsOf self.now seat.old }
         ensures lock { IsBeside seat.old seat.new }
-        ensures told { Rests (knows seat.old) length (knows seat.new) result }
+        ensures told { Rests seat.old.view length seat.new.view result }
     {
         // No wake-up is lost: each length is published before all sleepers of word 1 are woken, and `park`
         // sleeps only if the length still is the one that was looked at. It compares the low 32 bits, so it

@@ -2,7 +2,6 @@ use Rattle.std.proofs.Common.{rules, ◌≡◌, ℕ, ◌+◌, ◌∷◌, ◌++�
 use Rattle.doc_lock.specs.Lists.{Each}
 use Rattle.doc_lock.specs.Views.{folded}
 use Rattle.doc_lock.specs.declared.view.View.{View}
-use Rattle.doc_lock.specs.Told.{knows}
 use Rattle.lock_trial.specs.Noting.{EachWriter, IsDone, notes_by}
 use Rattle.lock_trial.specs.declared.notes.Note.{Note}
 use Rattle.lock_trial.proofs.Joined.{HasFrom, has_more, all_left, last_has, all_wrote}
@@ -31,9 +30,9 @@ loop-writer-preserved c = let inv = c.loop-writer.invariant in let l = c.args.lo
     let len = c.in-Some.ensures.len in let writer = c.in-Some.writer in
     let done = λ (n : ℕ) (h : EachWriter (IsDone n l) c.args.writers.now.items).
     last_has (λ i w. IsDone n l (i + 1) w) c.loop-writer.writers.items c.pop.new.self.items writer items (inv.done n h) in
-    let number : (knows writer.seat).number ≡ vec_len c.pop.new.self + 1 = (done c.requires.others.0 c.requires.others.1).0.1
+    let number : writer.seat.view.number ≡ vec_len c.pop.new.self + 1 = (done c.requires.others.0 c.requires.others.1).0.1
     ∙ omega arith in
-    let v : View Note ℕ = knows c.loop-writer.seat in let w : View Note ℕ = knows writer.seat in
+    let v : View Note ℕ = c.loop-writer.seat.view in let w : View Note ℕ = writer.seat.view in
     record {
       first = search rules;
       done = λ n h. all_left (λ i w. IsDone n l (i + 1) w) c.loop-writer.writers.items c.pop.new.self.items writer items (inv.done n h);

@@ -1,6 +1,5 @@
 use Rattle.std.proofs.Common.{◌≡◌, ◌+◌, ◌<◌, subst, sym, ap, ◌∙◌, arith}
 use Rattle.doc_lock.specs.Lists.{Each}
-use Rattle.doc_lock.specs.Told.{knows}
 use Rattle.lock_trial.specs.Noting.{EachWriter, IsDone, notes_by}
 use Rattle.lock_trial.specs.declared.notes.Note.{Note}
 use Rattle.lock_trial.proofs.Joined.{seats_wrote, written_back}
@@ -14,12 +13,12 @@ gather-others_wrote-requires-clause-others g c = (
 )
 
 pub returns-clause-writers : goal.returns-clause-writers
-returns-clause-writers g c = let made : (knows c.gather-others_wrote.new.seat).made ≡ c.args.writers + 1 =
+returns-clause-writers g c = let made : c.gather-others_wrote.new.seat.view.made ≡ c.args.writers + 1 =
     c.gather-others_wrote.ensures.same.0 ∙ (c.write_all-first_wrote.ensures.same.2 ∙ c.deal.ensures.made) in
     subst (λ m. Each (λ (e : Note). e.by < m) c.close-written.result.notes.items) made c.close-written.ensures.ends.1
 
 pub returns-clause-written : goal.returns-clause-written
-returns-clause-written g c = let v = knows c.gather-others_wrote.new.seat in let e = c.close-written.ensures.ends.0 in
+returns-clause-written g c = let v = c.gather-others_wrote.new.seat.view in let e = c.close-written.ensures.ends.0 in
     let made : v.made ≡ c.args.writers + 1 = c.gather-others_wrote.ensures.same.0
     ∙ (c.write_all-first_wrote.ensures.same.2 ∙ c.deal.ensures.made) in
     let zeroth : v.number ≡ 0 = c.gather-others_wrote.ensures.first.1 in

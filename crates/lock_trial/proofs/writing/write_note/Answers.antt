@@ -1,6 +1,5 @@
 use Rattle.std.proofs.Common.{◌≡◌, ℕ, [], ◌∷◌, ◌++◌, MatchResult, List, ap, ◌∙◌, subst}
 use Rattle.doc_lock.specs.Lists.{only}
-use Rattle.doc_lock.specs.Told.{knows, held_state}
 use Rattle.lock_trial.specs.declared.notes.Note.{Note}
 use Rattle.lock_trial.specs.Noting.{note}
 use Rattle.lock_trial.proofs.Noted.{mine_grows}
@@ -8,9 +7,9 @@ use Rattle.lock_trial.proofs.writing.write_note.Goals as goal
 
 pub returns-clause-mine : goal.returns-clause-mine
 returns-clause-mine g c = let before = c.hold-held.ensures.held in let after = c.give_back.ensures.seen in
-    let state = held_state c.hold-held.result in let now = c.add-added.new.self in
-    let n : ℕ = (knows c.args.seat.now).number in let k : c.number-number.result ≡ n = c.number-number.ensures.number in
-    let at : (knows c.hold-held.new.seat).number ≡ n = ap (λ v. v.number) before.2 in
+    let state = c.hold-held.result.state in let now = c.add-added.new.self in
+    let n : ℕ = c.args.seat.now.view.number in let k : c.number-number.result ≡ n = c.number-number.ensures.number in
+    let at : c.hold-held.new.seat.view.number ≡ n = ap (λ v. v.number) before.2 in
     let start : c.state.result.now.notes.items ≡ state.notes.items = ap (λ s. s.notes.items) c.state.ensures.value in
     mine_grows c.add-added.result n c.args.what state.notes.items now.notes.items _ _ before.0.own
     (ap (λ v. v.mine) after ∙ ap (λ (j : ℕ). only (λ (e : Note). e.by) j now.notes.items) at)

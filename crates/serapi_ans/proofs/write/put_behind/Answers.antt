@@ -8,7 +8,7 @@ pub loop-id-preserved : goal.loop-id-preserved
 loop-id-preserved g c =
     let rest = drop c.loop-id.id-index c.args.ids.now in
     let more = drop (c.loop-id.id-index + 1) c.args.ids.now in
-    put_more _ _ _ _ (numbers_behind rest) _ (numbers_behind more) c.loop-id.invariant (both c.put.ensures c.put_number.ensures)
+    put_more (numbers_behind rest) (numbers_behind more) c.loop-id.invariant (both c.put.ensures c.put_number.ensures)
     (ap numbers_behind (number_at c.args.ids.now c.loop-id.id-index c.loop-id-test.true))
 
 pub returns : goal.returns

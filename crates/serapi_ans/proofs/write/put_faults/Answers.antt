@@ -10,7 +10,7 @@ pub loop-fault-preserved : goal.loop-fault-preserved
 loop-fault-preserved g c =
     let rest = drop c.loop-fault.fault-index c.args.faults.now in
     let more = drop (c.loop-fault.fault-index + 1) c.args.faults.now in
-    put_more _ _ _ _ (fault_texts rest) _ (fault_texts more) c.loop-fault.invariant c.write_joined_fault.ensures
+    put_more (fault_texts rest) (fault_texts more) c.loop-fault.invariant c.write_joined_fault.ensures
     (ap fault_texts (element_at c.args.faults.now c.loop-fault.fault-index c.fault-item.result c.loop-fault-test.true c.fault-item.is)
     ∙ ap (λ b. text (fault_value (c.fault-item.result.0, b)) ++ fault_texts more) (sym c.as_slice.ensures))
 

@@ -10,7 +10,7 @@ pub loop-text-preserved : goal.loop-text-preserved
 loop-text-preserved g c =
     let rest = drop c.loop-text.text-index c.args.texts.now in
     let more = drop (c.loop-text.text-index + 1) c.args.texts.now in
-    put_more _ _ _ _ (string_texts rest) _ (string_texts more) c.loop-text.invariant c.put_named.ensures
+    put_more (string_texts rest) (string_texts more) c.loop-text.invariant c.put_named.ensures
     (ap string_texts (element_at c.args.texts.now c.loop-text.text-index c.text-item.result c.loop-text-test.true c.text-item.is)
     ∙ ap (λ b. text (string_value b) ++ string_texts more) (sym c.as_slice.ensures))
 

@@ -9,9 +9,9 @@ split_at-requires g c = omega (arith, c.run_length.ensures, prefix_len-le-length
 
 pub loop-first-preserved-then-is_itself : goal.loop-first-preserved-then-is_itself
 loop-first-preserved-then-is_itself g c =
-    put_run _ _ _ _ c.loop-first.rest.now _ _ c.run_length.result c.loop-first.invariant c.put.ensures c.run_length.ensures
+    put_run c.loop-first.rest.now c.run_length.result c.loop-first.invariant c.put.ensures c.run_length.ensures
     c.split_at.ensures.front c.split_at.ensures.back
 
 pub loop-first-preserved : goal.loop-first-preserved
-loop-first-preserved g c = put_one _ _ _ _ c.loop-first.rest.now c.in-Some.behind.now c.in-Some.first.now c.loop-first.invariant
+loop-first-preserved g c = put_one c.loop-first.rest.now c.in-Some.behind.now c.in-Some.first.now c.loop-first.invariant
     c.put_escape.ensures c.in-Some.ensures.cases.0

@@ -2,7 +2,7 @@ use Rattle.std.proofs.Common.{◌≡◌, ◌∷◌, ◌++◌, false, nat_lt, ap,
 use Rattle.std.specs.Prelude.{OnOk}
 use Rattle.vern_grammar.specs.Levels.{left_at_most, right_at_most}
 use Rattle.vern_grammar.specs.Kinds.{sign, quantifier, name, colon, comma}
-use Rattle.print_theory.specs.Names.{is_among}
+use Rattle.elab_theory.specs.Sentences.{is_among}
 use Rattle.print_theory.specs.Printing.{bound_name, enclosed, formula_tokens, quantifier_level}
 use Rattle.term_core.specs.Formula.{meaning}
 use Rattle.term_print.specs.Output.{all_names, operator, put_token, put_tokens}

@@ -1,4 +1,4 @@
-use Rattle.std.proofs.Common.{rules}
+use Rattle.std.proofs.Common.{rules, ap, ◌∙◌}
 use Rattle.doc_lock.proofs.Splitting.{splits}
 use Rattle.doc_lock.proofs.lock.DocLock.split.Goals as goal
 
@@ -6,5 +6,6 @@ pub split_seat-place-requires : goal.split_seat-place-requires
 split_seat-place-requires g c = (
   search rules,
   search rules,
-  splits g.S.Guarded.list g.S.Guarded.author g.S.Guarded.origin _ _ c.args.seat.now.numbered.2 c.requires.first.0 c.args.seat.now.begun,
+  splits g.S.Guarded.list g.S.Guarded.author g.S.Guarded.origin _ _ c.seat.invariant.live
+      (ap (λ s. s.view.number) c.seat.view_is ∙ c.requires.first.0) c.seat.invariant.begun,
 )

@@ -7,7 +7,8 @@ pub compare_exchange-found-requires : goal.compare_exchange-found-requires
 compare_exchange-found-requires g c = (
   search rules,
   search rules,
-  tries g.S.Guarded.list g.S.Guarded.author g.S.Guarded.origin _ _ _ _ c.args.seat.now.numbered.2 c.requires.free (search rules),
+  tries g.S.Guarded.list g.S.Guarded.author g.S.Guarded.origin _ _ _ _ c.seat.invariant.live
+      (ap (λ s. s.view.holds) c.seat.view_is ∙ c.requires.free) (search rules),
 )
 
 pub exchange-requires : goal.exchange-requires

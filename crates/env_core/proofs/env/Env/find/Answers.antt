@@ -1,23 +1,18 @@
-use Rattle.std.proofs.Common.{◌≡◌, [], ap, subst, sym, ◌∙◌}
+use Rattle.std.proofs.Common.{◌≡◌, sym, ap, ◌∙◌, option_map}
 use Rattle.env_theory.specs.Declarations.{find}
-use Rattle.env_theory.specs.Typing.{Environment}
 use Rattle.env_core.specs.Meaning.{declaration, declarations}
-use Rattle.env_core.specs.Layers.{stacked}
-use Rattle.env_core.proofs.Stacked.{layer_answers, layer_passed}
+use Rattle.env_core.specs.Layers.{decl_of}
+use Rattle.env_core.proofs.Kept.{found_declaration}
 use Rattle.env_core.proofs.env.Env.find.Goals as goal
 
-pub returns-then-is_some : goal.returns-then-is_some
-returns-then-is_some c =
-    let same = c.deref-layer-items.ensures.value in
-    layer_answers c.deref-layer-items.result.now c.loop-layer.layer-index c.layer-item.result c.loop-layer-test.true c.layer-item.is
-    (λ d. declaration d.now) c.find-found.result c.args.name.now
-    (subst (λ ls. Environment (declarations (stacked [] ls))) (sym same) c.self.invariant.0)
-    (c.find-found.ensures ∙ ap (λ l. find (declarations l) c.args.name.now) c.deref.ensures) (sym c.is_some.ensures ∙ c.if-is_some.true)
-    ∙ ap (λ ls. find (declarations (stacked [] ls)) c.args.name.now) same ∙ ap (λ ds. find (declarations ds) c.args.name.now) c.self.view_is
+pub returns-in-None : goal.returns-in-None
+returns-in-None c =
+    ap (λ o. option_map (λ e. declaration (decl_of e)) (option_map (λ e. e.now) o)) (sym c.in-None.is)
+    ∙ ap (option_map (λ e. declaration (decl_of e))) c.find.ensures ∙ found_declaration c.self.inside.entries c.args.name.now
+    ∙ ap (λ ds. find (declarations ds) c.args.name.now) c.self.view_is
 
-pub loop-layer-preserved : goal.loop-layer-preserved
-loop-layer-preserved c =
-    layer_passed c.deref-layer-items.result.now c.loop-layer.layer-index c.layer-item.result c.loop-layer-test.true c.layer-item.is
-    (λ d. declaration d.now) c.find-found.result c.args.name.now
-    (c.find-found.ensures ∙ ap (λ l. find (declarations l) c.args.name.now) c.deref.ensures) (sym c.is_some.ensures ∙ c.if-is_some.false)
-    c.loop-layer.invariant
+pub returns-in-Some : goal.returns-in-Some
+returns-in-Some c =
+    ap (λ o. option_map (λ e. declaration (decl_of e)) (option_map (λ e. e.now) o)) (sym c.in-Some.is)
+    ∙ ap (option_map (λ e. declaration (decl_of e))) c.find.ensures ∙ found_declaration c.self.inside.entries c.args.name.now
+    ∙ ap (λ ds. find (declarations ds) c.args.name.now) c.self.view_is

@@ -1,7 +1,6 @@
 use Rattle.std.proofs.Common.{◌≡◌, ◌≤◌, ap, subst, ◌∙◌}
 use Rattle.std.specs.Arc.{arc_value}
-use Rattle.env_theory.specs.Declarations.{find, name_of}
-use Rattle.env_core.specs.Meaning.{declaration, declarations}
+use Rattle.env_core.specs.Layers.{entry_name, found}
 use Rattle.env_core.proofs.Stacked.{none_of_it, all_of_it, next_is_new, next_put}
 use Rattle.env_core.proofs.layer.Layer.extend.Goals as goal
 
@@ -10,7 +9,7 @@ loop-number-init c = none_of_it c.args.newer.now c.args.self.now
 
 pub push-requires : goal.push-requires
 push-requires c =
-    ap (λ ds. find (declarations ds) (name_of (declaration (arc_value c.at.result.now)))) c.loop-number.invariant
+    ap (λ ds. found ds (entry_name (arc_value c.at.result.now))) c.loop-number.invariant
     ∙ next_is_new c.args.newer.now c.args.self.now c.loop-number.number (arc_value c.at.result.now) c.at.ensures c.requires
 
 pub loop-number-preserved : goal.loop-number-preserved

@@ -8,4 +8,4 @@ use Rattle.term_core.proofs.context.Context.hypothesis.Given as goal
 abbrev pub invariant-loop-at : goal.invariant-loop-at
 invariant-loop-at l =
     (l.left ≡ count (entries (slots l.at))) × (l.number < l.left)
-    × IsBehind (entries (slots l.at)) (entries (slots l.self)) l.number l.newer
+    × IsBehind (entries (slots l.at)) (entries (slots l.self)) l.newer

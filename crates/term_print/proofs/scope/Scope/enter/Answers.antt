@@ -1,5 +1,5 @@
 use Rattle.std.proofs.Common.{◌≡◌, [], ◌∷◌, ◌++◌, false, if◌then◌else◌, ap, ◌∙◌}
-use Rattle.print_theory.specs.Names.{is_among}
+use Rattle.elab_theory.specs.Sentences.{is_among}
 use Rattle.term_print.proofs.scope.Scope.enter.Goals as goal
 
 pub returns : goal.returns

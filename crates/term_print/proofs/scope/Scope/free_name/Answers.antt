@@ -1,5 +1,6 @@
 use Rattle.std.proofs.Common.{◌≡◌, false, true, ap, sym, ◌∙◌}
-use Rattle.print_theory.specs.Names.{is_among, numbered}
+use Rattle.elab_theory.specs.Sentences.{is_among}
+use Rattle.print_theory.specs.Names.{numbered}
 use Rattle.print_theory.proofs.Picks.{free_by_tries}
 use Rattle.term_print.specs.Output.{used_names}
 use Rattle.term_print.proofs.Scopes.{no_try, one_try_more}

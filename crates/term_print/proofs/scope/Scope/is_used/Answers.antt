@@ -1,5 +1,5 @@
 use Rattle.std.proofs.Common.{ap, sym, ◌∙◌}
-use Rattle.print_theory.specs.Names.{is_among}
+use Rattle.elab_theory.specs.Sentences.{is_among}
 use Rattle.term_print.proofs.Scopes.{used_bound, used_outer, used_taken}
 use Rattle.term_print.proofs.scope.Scope.is_used.Goals as goal
 

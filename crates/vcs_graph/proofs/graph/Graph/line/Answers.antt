@@ -8,7 +8,7 @@ pub put_items-requires : goal.put_items-requires
 put_items-requires c = record {
   room = omega (
     arith,
-    kept_total c.self.invariant,
+    kept_total c.self.invariant.kept,
     c.len.ensures.len,
     c.in_ok-reserve.ensures.spare,
     ap (λ x. length (items_ids x)) c.as_slice.ensures.value,
@@ -19,7 +19,7 @@ pub put_from-requires : goal.put_from-requires
 put_from-requires c = record {
   room = omega (
     arith,
-    kept_total c.self.invariant,
+    kept_total c.self.invariant.kept,
     c.len.ensures.len,
     c.in_ok-reserve.ensures.spare,
     c.put_items.ensures.room,
@@ -32,4 +32,5 @@ returns c =
     c.from_vec.ensures ∙ (c.into_vec.ensures ∙ (line_listed c.reserve.new.self.items c.put_items.new.list.items
     c.put_from.new.list.items c.self.inside.items.items c.as_slice.result.now c.self.inside.ending c.as_slice.ensures.value
     (c.reserve.ensures.items ∙ c.new-list.ensures) c.put_items.ensures.items c.put_from.ensures.items
-    ∙ (sym (line_ids c.self.inside.items.items c.self.inside.ending c.self.inside.zone c.self.invariant.zone) ∙ ap ids c.self.view_is)))
+    ∙ (sym (line_ids c.self.inside.items.items c.self.inside.ending c.self.inside.zone c.self.invariant.kept.zone)
+    ∙ ap ids c.self.view_is)))

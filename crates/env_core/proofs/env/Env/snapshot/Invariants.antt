@@ -1,6 +1,0 @@
-use Rattle.std.proofs.Common.{◌≡◌, [], take}
-use Rattle.env_core.specs.Layers.{stacked}
-use Rattle.env_core.proofs.env.Env.snapshot.Given as goal
-
-abbrev pub invariant-loop-layer : goal.invariant-loop-layer
-invariant-loop-layer l = stacked [] l.layers.items ≡ stacked [] (take l.layer-index l.layer-items)
