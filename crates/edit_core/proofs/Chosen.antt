@@ -303,55 +303,8 @@ clearing i d u v k = at (locate i d.items) (seated_is i d) u v k
     at (at_inner a l f g c t) h u v k = (tt, ap changed (clear_block d a l f c t d.focus k))
     at missing h u v k = clear_seat i d (in_focus i d.focus) h.1 u v k
 
--- ---- an id that isn't there, or stands behind the cursor
+-- ---- an edit that isn't at the place before the line
 
-pub edited_nowhere : (i : ℕ) (d : Line) → seat_site (seat i d) ≡ Nowhere → edited_at i (seat i d) d ≡ unknown
-edited_nowhere i d h = at (locate i d.items) (seated_is i d) h
-  where
-    focus : (s : Seat) → IsSeat i d.items d.focus s → seat_site s ≡ Nowhere → edited_at i s d ≡ unknown
-    focus (among s) w h = absurd w
-    focus (open_lemma l b) w h = absurd (cc)
-    focus (open_inner l f g) w h = absurd (cc)
-    focus (behind c) w h = absurd (cc)
-    focus nowhere w h = refl
-
-    at : (s : Spot) → IsSeated i d s (in_focus i d.focus) → seat_site (seat_or s (in_focus i d.focus)) ≡ Nowhere →
-        edited_at i (seat_or s (in_focus i d.focus)) d ≡ unknown
-    at (at_lone a t) w h = absurd (cc)
-    at (at_lemma a b c t) w h = absurd (cc)
-    at (at_inner a l f g c t) w h = absurd (cc)
-    at (at_closer a l b c t) w h = absurd (cc)
-    at missing w h = focus (in_focus i d.focus) w.1 h
-
-pub removed_nowhere : (d : Line) (s : Seat) → seat_site s ≡ Nowhere → removed_at s d ≡ unknown
-removed_nowhere d (among (at_lone a t)) h = absurd (cc)
-removed_nowhere d (among (at_lemma a b c t)) h = absurd (cc)
-removed_nowhere d (among (at_inner a l f g c t)) h = absurd (cc)
-removed_nowhere d (among (at_closer a l b c t)) h = absurd (cc)
-removed_nowhere d (among missing) h = refl
-removed_nowhere d (open_lemma l b) h = absurd (cc)
-removed_nowhere d (open_inner l f g) h = absurd (cc)
-removed_nowhere d (behind c) h = absurd (cc)
-removed_nowhere d nowhere h = refl
-
-behind_seat : (s : Seat) (c : ℕ) → seat_site s ≡ Behind c → s ≡ behind c
-behind_seat (among (at_lone a t)) c h = absurd (cc)
-behind_seat (among (at_lemma a b e t)) c h = absurd (cc)
-behind_seat (among (at_inner a l f g e t)) c h = absurd (cc)
-behind_seat (among (at_closer a l b e t)) c h = absurd (cc)
-behind_seat (among missing) c h = absurd (cc)
-behind_seat (open_lemma l b) c h = absurd (cc)
-behind_seat (open_inner l f g) c h = absurd (cc)
-behind_seat (behind e) c h = let q : e ≡ c = cc in ap behind q
-behind_seat nowhere c h = absurd (cc)
-
-pub edited_behind : (i : ℕ) (d : Line) (c : ℕ) → seat_site (seat i d) ≡ Behind c → edited_at i (seat i d) d ≡ zone_open c
-edited_behind i d c h = ap (λ s. edited_at i s d) (behind_seat (seat i d) c h)
-
-pub removed_behind : (i : ℕ) (d : Line) (c : ℕ) → seat_site (seat i d) ≡ Behind c → removed i d ≡ zone_open c
-removed_behind i d c h = ap (λ s. removed_at s d) (behind_seat (seat i d) c h)
-
--- an edit that isn't at 1
 pub edited_other : (i : ℕ) (d : Line) → nat_eq i 1 ≡ false → edited i d ≡ edited_at i (seat i d) d
 edited_other i d h = ap (λ t. if t then changed empty else edited_at i (seat i d) d) h
 

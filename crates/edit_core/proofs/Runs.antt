@@ -34,12 +34,6 @@ pub record Running (list : List ℕ) (k : ℕ) (d0 d : Line) (e0 e : List Edited
   pub treated : (cancelled list d0).treated ≡ t + (cancelled (drop k list) d).treated
   pub stopped : (cancelled list d0).stopped ≡ (cancelled (drop k list) d).stopped
 
-pub running_first : (list : List ℕ) (d : Line) (e : List Edited) (g : List ℕ) → Running list 0 d d e e g g 0
-running_first list d e g = record { line = refl; edits = refl; gone = refl; treated = none (cancelled list d).treated; stopped = refl }
-  where
-    none : (n : ℕ) → n ≡ 0 + n
-    none n = omega arith
-
 dropped_next : (list : List ℕ) (k n x : ℕ) → n ≡ suc k → k < length list → x ≡ slice_index_or list k 0 → drop k list ≡ x ∷ drop n list
 dropped_next [] k n x e h g = absurd (omega arith)
 dropped_next (y ∷ ys) zero n x e h g = ap (λ z. z ∷ ys) (sym g) ∙ ap (λ z. x ∷ drop z (y ∷ ys)) (sym e)
