@@ -13,8 +13,6 @@ mod document;
 mod laws;
 mod reply;
 mod script;
-#[cfg(test)]
-mod tests;
 
 pub use document::{Document, Done, LIVE_LIMIT};
 pub use laws::{histories_go_on, history_is_answered, what_is_built_is_the_theory};
