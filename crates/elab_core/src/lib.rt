@@ -12,6 +12,8 @@ mod fault;
 mod scope;
 mod sentence;
 mod size;
+#[cfg(test)]
+mod tests;
 mod typing;
 
 pub use fault::ElabFault;
