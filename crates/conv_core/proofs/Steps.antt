@@ -143,9 +143,6 @@ rigid_step E x fs c by t f ts e s k =
 
 -- ---- one step after others
 
-pub onward_start : (E : List Declaration) (fs : List Frame) (c by : ℕ) (t : Term) → Onward E fs (scope_of fs c) by t fs c by t
-onward_start E fs c by t = (extends_none fs, refl, omega arith, refl)
-
 pub onward_more : (E : List Declaration) (fs : List Frame) (k : Scope) (n : ℕ) (s : Term) (gs : List Frame) (c by : ℕ) (t : Term)
     (hs : List Frame) (d b : ℕ) (u : Term) → Onward E fs k n s gs c by t → Extends gs hs →
     value E (scope_of hs d) b u ≡ value E (scope_of gs c) by t → left E (scope_of hs d) u < left E (scope_of gs c) t

@@ -1,6 +1,6 @@
 -- The machine's steps on formulas, over frames.
 use Rattle.std.proofs.Common.{◌≡◌, ℕ, zero, suc, ◌+◌, ◌<◌, ◌≤◌, ◌^◌, List, [], ◌∷◌, ◌++◌, length, get_or, refl, sym, ap, subst, ◌∙◌}
-use Rattle.std.proofs.Common.{Some, None, arith}
+use Rattle.std.proofs.Common.{Some, arith}
 use Rattle.std.specs.declared.sync.ArcSlice.{ArcSlice}
 use Rattle.std.specs.declared.alloc.Global.{Global}
 use Rattle.fol_theory.specs.Syntax.{Term, Terms, Formula as Meaning, truth, falsity, pred, equal, both, either, implies, all, ex}
@@ -65,9 +65,6 @@ rigid_kind E (either a b) h = tt
 rigid_kind E (implies a b) h = tt
 rigid_kind E (all s x a) h = tt
 rigid_kind E (ex s x a) h = tt
-
-pub rigid_pred : (E : List Declaration) (a : Meaning) (p : List ℕ) (ts : Terms) → a ≡ pred p ts → formula_body (find E p) ≡ None → Rigid E a
-rigid_pred E a p ts e k = subst (Rigid E) (sym e) k
 
 -- ---- a predicate
 

@@ -1,11 +1,9 @@
 -- Histories with one more event at their end.
-use Rattle.std.proofs.Common.{◌≡◌, ℕ, ◌<◌, ◌≤◌, List, [], ◌∷◌, ◌++◌, true, false, Bool, refl, sym, ap, ◌∙◌, subst}
-use Rattle.std.proofs.Common.{append_assoc, append-nil, arith}
-use Rattle.stm_base.specs.Output.{Output, IsPut}
+use Rattle.std.proofs.Common.{◌≡◌, ℕ, ◌<◌, List, [], ◌∷◌, ◌++◌, true, false, Bool, refl, sym, ap, ◌∙◌, subst}
+use Rattle.std.proofs.Common.{append_assoc, append-nil}
 use Rattle.serapi_cmd.specs.declared.request.Request.{Request}
-use Rattle.serapi_ans.specs.Lines.{lines_text}
 use Rattle.serapi_ans.specs.declared.line.Line.{Line}
-use Rattle.doc_theory.specs.Documents.{Document, empty}
+use Rattle.doc_theory.specs.Documents.{Document}
 use Rattle.doc_theory.specs.Answers.{Cut}
 use Rattle.doc_theory.specs.Histories.{
   Event,
@@ -25,7 +23,7 @@ use Rattle.doc_theory.specs.Histories.{
 use Rattle.hist_core.specs.Events.{kept_lines}
 use Rattle.doc_core.specs.Answers.{MayBe, answer, answers, answers_from}
 use Rattle.doc_core.specs.Histories.{Standing, start, step, IsCommand, Asks, standing_from, standing, LegalFrom, Legal, render}
-use Rattle.doc_core.specs.Kept.{Held, IsAnswered, IsKept, Takes}
+use Rattle.doc_core.specs.Kept.{IsAnswered, IsKept}
 
 pub standing-grown : (p : Standing) (es : List Event) (e : Event) → standing_from p (es ++ e ∷ []) ≡ step (standing_from p es) e
 standing-grown p [] e = refl
@@ -85,30 +83,6 @@ kept_command {h} {spare} {more} {n} {d} {e} {b} {q} {cut} {ls} k going no_quit n
       closed = k.closed ∙ sym (ap (λ (s : Standing). s.closed) at) ∙ ap (λ z. (standing z grown).closed) (sym same);
       room = λ going_on. room;
     }
-
--- the entry is the one that is asked for
-pub takes_command : {h : List Event} {spare n : ℕ} {d e : Document} {b : Bool} {q : Request} {cut : Cut} {ls : List Line} {o p : Output}
-    {new : Held} → IsKept h spare d b → n ≡ (standing d.limit h).commands → IsAnswered d q cut ls e → IsPut o (lines_text ls) p
-    → new.history ≡ h ++ command n q cut ls ∷ [] → Takes (record { history = h; spare = spare; limit = d.limit }) new q o p
-takes_command {h} {spare} {n} {d} {e} {b} {q} {cut} {ls} {o} {p} {new} k number a put grown =
-    let at : Standing = standing d.limit h in
-    let lines_are : ls ≡ (answer at.document q cut).lines = a.lines ∙ ap (λ z. (answer z q cut).lines) k.document in
-    record {
-      cut = cut;
-      history = grown ∙ ap (λ m. h ++ command m q cut ls ∷ []) number ∙ ap (λ z. h ++ command at.commands q cut z ∷ []) lines_are;
-      put = subst (λ z. IsPut o (lines_text z) p) lines_are put;
-    }
-
-pub kept_new : (limit spare : ℕ) → 0 < spare → IsKept [] spare (empty limit) false
-kept_new limit spare room = record { legal = tt; document = refl; closed = refl; room = λ going. room }
-
-pub kept_reserved : {h : List Event} {spare more : ℕ} {d : Document} {b : Bool} → IsKept h spare d b → spare ≤ more → IsKept h more d b
-kept_reserved {h} {spare} {more} {d} {b} k room = record {
-  legal = k.legal;
-  document = k.document;
-  closed = k.closed;
-  room = λ going. (let was : 0 < spare = k.room going in omega (arith, was, room));
-}
 
 -- the history is ended
 pub kept_closed : {h : List Event} {spare more : ℕ} {d : Document} {b : Bool} → IsKept h spare d b → (standing d.limit h).closed ≡ false
