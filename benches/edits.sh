@@ -17,5 +17,5 @@ grep -E '^(base_core|line_theory|vcs_graph|edit_core):' "$top/crates.txt" >"$wor
 echo 'edit_times: edit_core vcs_graph anyhow' >>"$work/crates.txt"
 
 cp "$top/benches/edits/main.txt" "$work/crates/edit_times/src/main.rt"
-(cd "$work/crates/edit_times" && rt try >"$work/times" 2>"$work/log") || { cat "$work/log" >&2; exit 1; }
+(cd "$work/crates/edit_times" && rt try --seconds 900 >"$work/times" 2>"$work/log") || { cat "$work/log" >&2; exit 1; }
 cat "$work/times"

@@ -4,6 +4,7 @@ use Rattle.line_theory.specs.Edits.{Edited as Change, changed, zone_open, unknow
 use Rattle.edit_core.specs.declared.edit.Edited.{Edited}
 use Rattle.edit_core.specs.declared.edit.Edited.TheVariants.{NewTip, Focus, ZoneOpen, NoSuchState}
 
+-- a line by its cursor, or by its zone and its tip
 abbrev pub told_outcome : Outcome → Edited
 told_outcome (new_tip n) = NewTip n
 told_outcome (focused l c n) = Focus l c n

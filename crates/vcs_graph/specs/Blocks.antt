@@ -5,6 +5,7 @@ use Rattle.line_theory.specs.Shapes.{closed, proof, Focus, last, zone}
 use Rattle.line_theory.specs.Lines.{Closing, Line, Spot, at_lone, at_lemma, at_inner, at_closer, missing, locate}
 use Rattle.vcs_graph.specs.declared.graph.Block.{Block}
 
+-- a block with its closer
 abbrev pub held : ℕ → Closing → Block
 held l c = record { start = l; stop = Some c.id; opaque = c.opaque }
 
@@ -14,6 +15,7 @@ open_block i (last closed) = None
 open_block i (last (proof l b)) = if has i (l ∷ b) then Some (record { start = l; stop = None; opaque = false }) else None
 open_block i (zone l b c t o) = None
 
+-- the block of where an id stands
 abbrev pub block_at : ℕ → Spot → Focus ℕ Closing → Option Block
 block_at i (at_lone a t) f = None
 block_at i (at_lemma a b c t) f = Some (held i c)

@@ -12,10 +12,12 @@ Branches i (Proof p) d = (p ≡ i) × ((2 ≤ i) × ((has i (ids d) ≡ false) �
 Branches i (Zone s t) d = (has i (ids d) ≡ true) ×
     (Opens i d × (block_in i (refolded d) ≡ Some (record { start = s; stop = Some t; opaque = true })))
 
+-- the line with the branch
 abbrev pub branched : ℕ → Branch → Line → Line
 branched i (Proof p) d = begun i d
 branched i (Zone s t) d = zoned i d
 
+-- the branch is a zone
 abbrev pub IsZone : Branch → Type 0
 IsZone (Proof p) = ⊥
 IsZone (Zone s t) = Unit {0}

@@ -6,25 +6,31 @@ use Rattle.line_theory.specs.Shapes.{Item, lone, block, End, closed, proof}
 use Rattle.line_theory.specs.Lines.{Closing, items_ids, end_ids}
 use Rattle.vcs_graph.specs.declared.segment.Closer.{Closer}
 
+-- the first id of an item
 abbrev pub first_of : Item ℕ Closing → ℕ
 first_of (lone i) = i
 first_of (block l b c) = l
 
+-- what is inside of an item
 abbrev pub inside_of : Item ℕ Closing → List ℕ
 inside_of (lone i) = []
 inside_of (block l b c) = b
 
+-- the closer of an item, if it has one
 abbrev pub closer_of : Item ℕ Closing → Option Closer
 closer_of (lone i) = None
 closer_of (block l b c) = Some (record { id = c.id; opaque = c.opaque })
 
+-- the last id of an item
 abbrev pub stop_of : Item ℕ Closing → ℕ
 stop_of (lone i) = i
 stop_of (block l b c) = c.id
 
+-- a block with this closer
 abbrev pub ended : ℕ → List ℕ → Closer → Item ℕ Closing
 ended l b c = block l b (record { id = c.id; opaque = c.opaque })
 
+-- an item is a block
 abbrev pub IsBlock : Item ℕ Closing → Type 0
 IsBlock (lone i) = ⊥
 IsBlock (block l b c) = Unit {0}
@@ -34,14 +40,17 @@ abbrev pub with_inside : List ℕ → Item ℕ Closing → Item ℕ Closing
 with_inside b (lone i) = lone i
 with_inside b (block l k c) = block l b c
 
+-- the lemma of the block that is open at the end, if one is
 abbrev pub lemma_of : End ℕ → Option ℕ
 lemma_of closed = None
 lemma_of (proof l b) = Some l
 
+-- what is inside of it
 abbrev pub body_of : End ℕ → List ℕ
 body_of closed = []
 body_of (proof l b) = b
 
+-- a block is open at the end
 abbrev pub IsOpen : End ℕ → Type 0
 IsOpen closed = ⊥
 IsOpen (proof l b) = Unit {0}
@@ -67,10 +76,12 @@ block_front part.First l b = []
 block_front (part.Inside j) l b = l ∷ take (pred j) b
 block_front part.Closer l b = l ∷ b
 
+-- the same of an item
 abbrev pub part_front : Part → Item ℕ Closing → List ℕ
 part_front p (lone i) = []
 part_front p (block l b c) = block_front p l b
 
+-- and of the end
 abbrev pub end_front : Part → End ℕ → List ℕ
 end_front p closed = []
 end_front p (proof l b) = block_front p l b
@@ -94,13 +105,14 @@ opens_behind part.First (block l b c) = true
 opens_behind (part.Inside j) (block l b c) = true
 opens_behind part.Closer (block l b c) = false
 
+-- the same where the part goes too
 abbrev pub opens_from : Part → Item ℕ Closing → Bool
 opens_from p (lone i) = false
 opens_from part.First (block l b c) = false
 opens_from (part.Inside j) (block l b c) = true
 opens_from part.Closer (block l b c) = true
 
--- what stays of the items, and at the end, where all behind a part of an item goes
+-- what stays of some items and the one behind them, where all behind a part of that one goes
 abbrev pub cut_items : Part → List (Item ℕ Closing) → Item ℕ Closing → List (Item ℕ Closing)
 cut_items part.First f (lone i) = f ++ (lone i ∷ [])
 cut_items part.First f (block l b c) = f
@@ -108,6 +120,7 @@ cut_items (part.Inside j) f (lone i) = f ++ (lone i ∷ [])
 cut_items (part.Inside j) f (block l b c) = f
 cut_items part.Closer f x = f ++ (x ∷ [])
 
+-- the end that is left where all behind a part of an item goes
 abbrev pub cut_end : Part → Item ℕ Closing → End ℕ
 cut_end part.First (lone i) = closed
 cut_end part.First (block l b c) = proof l []
@@ -136,6 +149,7 @@ part_rest part.First (block l b c) = l ∷ (b ++ (c.id ∷ []))
 part_rest (part.Inside j) (block l b c) = drop (pred j) b ++ (c.id ∷ [])
 part_rest part.Closer (block l b c) = c.id ∷ []
 
+-- the same of the end
 abbrev pub end_rest : Part → End ℕ → List ℕ
 end_rest p closed = []
 end_rest part.First (proof l b) = l ∷ b

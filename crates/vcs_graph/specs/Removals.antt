@@ -18,6 +18,7 @@ Stands (open_inner l f k) = Unit {0}
 Stands (behind c) = ⊥
 Stands nowhere = ⊥
 
+-- what is left of the line where the id goes that stands here, and all behind it
 abbrev pub cleared_at : Seat → Line → Line
 cleared_at (among (at_lone a t)) d = line_of a (last closed)
 cleared_at (among (at_lemma a b c t)) d = line_of a (last closed)
@@ -41,9 +42,11 @@ NarrowsIn (among (at_inner a l f k c t)) (last o) = c.opaque ≡ true
 NarrowsIn (open_inner l f k) (zone m b c t o) = Unit {0}
 NarrowsIn s f = ⊥
 
+-- the same of where the id stands in the line
 abbrev pub Narrows : ℕ → Line → Type 0
 Narrows i d = NarrowsIn (seat i d) d.focus
 
+-- the zone that is left where the id goes that stands here, up to the closer or the cursor
 abbrev pub narrowed_at : Seat → Line → Focus ℕ Closing → Line
 narrowed_at (among (at_inner a l f k c t)) d (last o) = line_of a (zone l f c t o)
 narrowed_at (open_inner l f k) d (zone m b c t o) = line_of d.items (zone m f c t o)

@@ -16,6 +16,7 @@ spot_site (at_inner a l f k c t) = site.Inner c.opaque
 spot_site (at_closer a l b c t) = site.Closer
 spot_site missing = site.Nowhere
 
+-- of where an id stands in the line, what it is there
 abbrev pub seat_site : Seat → Site
 seat_site (among s) = spot_site s
 seat_site (open_lemma l b) = site.OpenLemma

@@ -17,6 +17,7 @@ abbrev pub IsRun : List ℕ → List ℕ → ℕ → ℕ → Type 0
 IsRun sums sizes j m = get_or sums (doubled j (m + m + 1) - 1) 0 + sum_to (doubled j (m + m)) sizes ≡ sum_to
     (doubled j (m + m + 1)) sizes
 
+-- as many sums as sizes, which come to a number of 64 bits, and at each number the sum of the run that ends there
 pub record IsSums (sums sizes : List ℕ) : Type 0 where
   pub same : length sums ≡ length sizes
   pub few : sum_to (length sizes) sizes < 2 ^ 64

@@ -21,15 +21,18 @@ abbrev pub inner_places : ℕ → ℕ → List ℕ → List (ℕ × Place)
 inner_places k j [] = []
 inner_places k j (i ∷ b) = (i, record { item = k; part = Inside j }) ∷ inner_places k (suc j) b
 
+-- the ids of an item with their places, the item having this number
 abbrev pub item_places : ℕ → Item ℕ Closing → List (ℕ × Place)
 item_places k (lone i) = (i, record { item = k; part = First }) ∷ []
 item_places k (block l b c) = (l, record { item = k; part = First })
     ∷ (inner_places k 1 b ++ ((c.id, record { item = k; part = Closer }) ∷ []))
 
+-- those of some items, from this number on
 abbrev pub items_places : ℕ → List (Item ℕ Closing) → List (ℕ × Place)
 items_places k [] = []
 items_places k (x ∷ xs) = item_places k x ++ items_places (suc k) xs
 
+-- those of the block that is open at the end, which has this number
 abbrev pub end_places : ℕ → End ℕ → List (ℕ × Place)
 end_places k closed = []
 end_places k (proof l b) = (l, record { item = k; part = First }) ∷ inner_places k 1 b
