@@ -6,14 +6,18 @@ use Rattle.vern_grammar.specs.Kinds.{Kind, Lexeme}
 use Rattle.vern_grammar.specs.Kinds as kind
 use Rattle.vern_grammar.specs.Grammar.{tok, group, named as named_at}
 use Rattle.vern_sentence.specs.Words.{opening, colon}
-use Rattle.vern_sentence.specs.Slots.{names, groups, between, inside, before_sort, behind_sort, cut}
+use Rattle.vern_sentence.specs.Slots.{names, groups, GroupPlace, between, inside, before_sort, behind_sort, whole_groups, cut}
 use Rattle.base_core.specs.Answers.{and_then}
-use Rattle.vern_sentence.specs.Patterns.{sign_front, name_front}
-use Rattle.vern_parse.specs.Walks.{closes, some_names, a_group, grouped}
+use Rattle.vern_sentence.specs.Patterns.{sign_front, name_front, part_at}
+use Rattle.vern_parse.specs.Pieces.{closes, some_names, a_group}
 use Rattle.vern_parse.specs.Sources.{Wanted}
 
 abbrev Left : Type 0
 Left = Wanted (List Group × List Lexeme)
+
+-- the groups that were read, with the tokens that are left, or these where a group isn't whole
+abbrev pub grouped : GroupPlace × List Lexeme → Left
+grouped (p, ks) = part_at groups ks (whole_groups p)
 
 -- ---- between groups
 

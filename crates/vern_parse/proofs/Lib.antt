@@ -2,8 +2,9 @@ pub mod Ends
 pub mod Grouped
 pub mod Loops
 pub mod Parsed
+pub mod Parts
 pub mod Places
 pub mod Stacks
 pub mod Steps
+pub mod Taken
 pub mod Trees
-pub mod Walked

@@ -18,8 +18,6 @@ use Rattle.vern_parse.specs.declared.fault.ParseFault.TheVariants as fault
 use Rattle.vern_parse.specs.Sentences.{sentence}
 use Rattle.vern_parse.specs.Answers.{IsFaultOf, IsRead, IsRefused, offset}
 use Rattle.vern_parse.specs.Sources.{Wanted, Gives, first_offset, refused}
-use Rattle.vern_parse.specs.Walks.{walked_sentence}
-use Rattle.vern_parse.proofs.Walked.{sentence_walks}
 
 offset_is_first : (text : List ℕ) (tokens : List Token) (i : ℕ) → offset text tokens i ≡ first_offset text (drop i (lexemes text tokens))
 offset_is_first text [] zero = refl
@@ -44,16 +42,16 @@ module _ (text : List ℕ) (tokens : List Token) where
   all = lexemes text tokens
 
   abbrev Given : Result Raw ParseFault → Type 0
-  Given r = Gives sentence (tokens, text) r (walked_sentence text all)
+  Given r = Gives sentence (tokens, text) r (sentence_reading text all)
 
-  parsed : (r : Raw) → walked_sentence text all ≡ Ok (sentence r) → IsSentence text all (sentence r)
-  parsed r e = given text all (sentence r) (sentence_walks text all ∙ e)
+  parsed : (r : Raw) → sentence_reading text all ≡ Ok (sentence r) → IsSentence text all (sentence r)
+  parsed r e = given text all (sentence r) e
 
-  faulted_at : (p : ℕ) (m : Wanted Sentence) → walked_sentence text all ≡ m → refused text m ≡ Some p
+  faulted_at : (p : ℕ) (m : Wanted Sentence) → sentence_reading text all ≡ m → refused text m ≡ Some p
       → (i : ℕ) × IsFault (IsSentence text) all i × (p ≡ offset text tokens i)
   faulted_at p (Ok t) e h = absurd (none_some p h)
   faulted_at p (Err rest) e h =
-      let (i, f, q) = faulty text all rest (sentence_walks text all ∙ e) in
+      let (i, f, q) = faulty text all rest e in
       (i, f, sym (some_out (first_offset text rest) p h) ∙ ap (first_offset text) q ∙ sym (offset_is_first text tokens i))
 
   pub tree : (r : Result Raw ParseFault) → Given r → IfOk r (λ t. IsSentence text all (sentence t))
@@ -67,22 +65,22 @@ module _ (text : List ℕ) (tokens : List Token) where
 
   pub fault_is : (r : Result Raw ParseFault) → Given r → IfErr r (λ e. IsFaultOf (IsSentence text) text tokens e)
   fault_is (Ok r) e = tt
-  fault_is (Err (fault.At p)) e = faulted_at p (walked_sentence text all) refl e
+  fault_is (Err (fault.At p)) e = faulted_at p (sentence_reading text all) refl e
   fault_is (Err fault.NoMemory) e = tt
 
-  read_by : (p : ℕ) (t : Sentence) (m : Wanted Sentence) → walked_sentence text all ≡ m → refused text m ≡ Some p → IsSentence text all t
+  read_by : (p : ℕ) (t : Sentence) (m : Wanted Sentence) → sentence_reading text all ≡ m → refused text m ≡ Some p → IsSentence text all t
       → ⊥
   read_by p t (Ok u) e h w = none_some p h
-  read_by p t (Err rest) e h w = err_ok (sentence_reading text all) rest t (sentence_walks text all ∙ e) (accepted text all t w)
+  read_by p t (Err rest) e h w = err_ok (sentence_reading text all) rest t e (accepted text all t w)
 
   pub is_read : (r : Result Raw ParseFault) → Given r → (t : Sentence) → IsSentence text all t → IsRead sentence r t
-  is_read (Ok r) e t w = ok_out (sentence_reading text all) (sentence r) t (sentence_walks text all ∙ e) (accepted text all t w)
-  is_read (Err (fault.At p)) e t w = read_by p t (walked_sentence text all) refl e w
+  is_read (Ok r) e t w = ok_out (sentence_reading text all) (sentence r) t e (accepted text all t w)
+  is_read (Err (fault.At p)) e t w = read_by p t (sentence_reading text all) refl e w
   is_read (Err fault.NoMemory) e t w = tt
 
   pub is_refused : (r : Result Raw ParseFault) → Given r → (i : ℕ) → IsFault (IsSentence text) all i → IsRefused r (offset text tokens i)
   is_refused (Ok r) e i f = not_both (IsSentence text) all i (sentence r) f (parsed r e)
   is_refused (Err (fault.At p)) e i f =
-      let (j, g, q) = faulted_at p (walked_sentence text all) refl e in
+      let (j, g, q) = faulted_at p (sentence_reading text all) refl e in
       q ∙ ap (offset text tokens) (one_fault (IsSentence text) all j i g f)
   is_refused (Err fault.NoMemory) e i f = tt

@@ -6,15 +6,15 @@ use Rattle.vern_grammar.specs.Grammar.{Head, level, room, begin, governing}
 use Rattle.vern_grammar.specs.Machine.{Frame, parenthesis, argument, governor, outline, link, shift, place}
 use Rattle.vern_parse.specs.Answers.{takes_first}
 
-not_yes : (b : Bool) → not b ≡ true → b ≡ false
+pub not_yes : (b : Bool) → not b ≡ true → b ≡ false
 not_yes true e = sym e
 not_yes false e = refl
 
-not_no : (b : Bool) → not b ≡ false → b ≡ true
+pub not_no : (b : Bool) → not b ≡ false → b ≡ true
 not_no true e = refl
 not_no false e = sym e
 
-fits_both : (a b : Bool) → (a && b) ≡ true → a ≡ true
+pub fits_both : (a b : Bool) → (a && b) ≡ true → a ≡ true
 fits_both true b e = refl
 fits_both false b e = e
 

@@ -35,6 +35,11 @@ Steps (Ok m) s to = to ≡ Some (at (mode m) (frames s))
 Steps (Err Refused) s to = to ≡ None
 Steps (Err NoMemory) s to = Unit {0}
 
+-- there is a next state
+abbrev pub is_taken : Option State → Bool
+is_taken None = false
+is_taken (Some st) = true
+
 -- the newest frame is a head that takes the operand before the operator could have it
 abbrev pub takes_first : tree.Operator → Bool → List machine.Frame → Bool
 takes_first op fits (governor h ∷ s) = not (fits && nat_le (op_level op) (room h))

@@ -1,5 +1,5 @@
 pub mod Answers
 pub mod Meaning
+pub mod Pieces
 pub mod Sentences
 pub mod Sources
-pub mod Walks

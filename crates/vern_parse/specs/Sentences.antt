@@ -3,9 +3,6 @@ use Rattle.std.specs.Prelude.{List, map, Option, Some, None}
 use Rattle.vern_grammar.specs.Trees.{Name, Group}
 use Rattle.vern_sentence.specs.Trees as made
 use Rattle.vern_sentence.specs.Words as word
-use Rattle.vern_sentence.specs.Slots as slots
-use Rattle.vern_parse.specs.declared.slot.Part.{Part}
-use Rattle.vern_parse.specs.declared.slot.Part.TheVariants as part
 use Rattle.vern_parse.specs.declared.raw.RawName.{RawName}
 use Rattle.vern_parse.specs.declared.raw.Raw.{Raw}
 use Rattle.vern_parse.specs.declared.raw.Raw.TheVariants.{Declare, Define, Begin, ProofWord, Refinement, Bullet, BraceIn, BraceOut, Close}
@@ -127,10 +124,3 @@ sign_of sign.Arrow = word.arrow
 sign_of sign.Colon = word.colon
 sign_of sign.LeftParenthesis = word.opening
 sign_of sign.Prop = word.prop_word
-
--- a part of a sentence
-abbrev pub part_slot : Part → slots.Slot
-part_slot part.Expression = slots.expression
-part_slot part.Enclosed = slots.enclosed
-part_slot part.Shape = slots.shape
-part_slot part.Evidence = slots.evidence

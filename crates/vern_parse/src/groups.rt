@@ -1,8 +1,9 @@
 //! The groups of a definition.
 ghost use Rattle.std.specs.Prelude.{◌<◌, IfOk};
+ghost use Rattle.vern_sentence.specs.Patterns.{part_front};
 ghost use Rattle.vern_sentence.specs.Slots.{groups as groups_slot};
 ghost use Rattle.vern_parse.specs.Sentences.{groups_of};
-ghost use Rattle.vern_parse.specs.Walks.{a_group, part};
+ghost use Rattle.vern_parse.specs.Pieces.{a_group};
 ghost use Rattle.vern_parse.specs.Sources.{Gives, rest, with_rest};
 
 use crate::fault::ParseFault;
@@ -18,7 +19,7 @@ pub fn groups_at(
     source: &Source<'_>,
     at: usize,
 ) -> Result<(RawGroups, usize), ParseFault>
-    ensures { Gives (with_rest groups_of source.now) source.now result (part groups_slot (rest source.now at)) }
+    ensures { Gives (with_rest groups_of source.now) source.now result (part_front groups_slot (rest source.now at)) }
 {
     let mut groups = Vec::new(alloc);
     let mut at = at;

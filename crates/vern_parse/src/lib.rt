@@ -23,6 +23,7 @@ mod slot;
 mod source;
 mod stack;
 mod step;
+mod takes;
 mod words;
 
 pub use fault::ParseFault;

@@ -2,11 +2,11 @@
 ghost use Rattle.vern_lex.specs.declared.span.Span.{Span};
 ghost use Rattle.vern_sentence.specs.Trees as made;
 ghost use Rattle.vern_sentence.specs.Words as word;
+ghost use Rattle.vern_sentence.specs.Patterns.{reading};
 ghost use Rattle.vern_sentence.specs.Reading.{arguing, ends_as, following, two_names};
 ghost use Rattle.vern_parse.specs.Meaning.{expression};
 ghost use Rattle.vern_parse.specs.Sentences.{refinement, sentence as sentence_of, tactic_word};
 ghost use Rattle.vern_parse.specs.Sources.{Gives, no_span, rest};
-ghost use Rattle.vern_parse.specs.Walks.{walked};
 
 use crate::fault::ParseFault;
 use crate::raw::{Raw, RawExpr, RawTac};
@@ -23,7 +23,7 @@ pub fn refinement_behind(
     at: usize,
 ) -> Result<Raw, ParseFault>
     ensures { (c : Span) → Gives sentence_of source.now result
-        (walked (following source.now.1 c (tactic_word word)) (rest source.now at)) }
+        (reading (following source.now.1 c (tactic_word word)) (rest source.now at)) }
 {
     match word {
         Tactic::Intro => intro(alloc, source, at),
@@ -47,7 +47,7 @@ pub fn refinement_behind(
 
 /// Behind `exists`: an expression.
 pub fn witness(alloc: Global, source: &Source<'_>, at: usize) -> Result<Raw, ParseFault>
-    ensures { Gives sentence_of source.now result (walked (following source.now.1 no_span word.exists) (rest source.now at)) }
+    ensures { Gives sentence_of source.now result (reading (following source.now.1 no_span word.exists) (rest source.now at)) }
 {
     let (value, at) = expression_at(alloc, source, at)?;
     source.finish(at, Raw::Refinement(RawTac::Exists(value)))
@@ -55,7 +55,7 @@ pub fn witness(alloc: Global, source: &Source<'_>, at: usize) -> Result<Raw, Par
 
 /// Behind `intro`: nothing, or a name.
 fn intro(alloc: Global, source: &Source<'_>, at: usize) -> Result<Raw, ParseFault>
-    ensures { Gives sentence_of source.now result (walked (following source.now.1 no_span word.intro) (rest source.now at)) }
+    ensures { Gives sentence_of source.now result (reading (following source.now.1 no_span word.intro) (rest source.now at)) }
 {
     if let Some(at) = source.skip(at, Sign::FullStop) {
         return source.end(at, Raw::Refinement(RawTac::Intro(None)));
@@ -66,7 +66,7 @@ fn intro(alloc: Global, source: &Source<'_>, at: usize) -> Result<Raw, ParseFaul
 
 /// Behind `intros`: names, as many as there are.
 fn intros(alloc: Global, source: &Source<'_>, at: usize) -> Result<Raw, ParseFault>
-    ensures { Gives sentence_of source.now result (walked (following source.now.1 no_span word.intros) (rest source.now at)) }
+    ensures { Gives sentence_of source.now result (reading (following source.now.1 no_span word.intros) (rest source.now at)) }
 {
     let (names, at) = source.names_at(alloc, at)?;
     source.finish(at, Raw::Refinement(RawTac::Intros(names)))
@@ -74,7 +74,7 @@ fn intros(alloc: Global, source: &Source<'_>, at: usize) -> Result<Raw, ParseFau
 
 /// Behind `exact`: evidence.
 fn exact(alloc: Global, source: &Source<'_>, at: usize) -> Result<Raw, ParseFault>
-    ensures { Gives sentence_of source.now result (walked (following source.now.1 no_span word.exact) (rest source.now at)) }
+    ensures { Gives sentence_of source.now result (reading (following source.now.1 no_span word.exact) (rest source.now at)) }
 {
     let (value, at) = evidence_at(alloc, source, at)?;
     source.finish(at, Raw::Refinement(RawTac::Exact(value)))
@@ -82,7 +82,7 @@ fn exact(alloc: Global, source: &Source<'_>, at: usize) -> Result<Raw, ParseFaul
 
 /// Behind `apply`: evidence.
 fn apply(alloc: Global, source: &Source<'_>, at: usize) -> Result<Raw, ParseFault>
-    ensures { Gives sentence_of source.now result (walked (following source.now.1 no_span word.apply) (rest source.now at)) }
+    ensures { Gives sentence_of source.now result (reading (following source.now.1 no_span word.apply) (rest source.now at)) }
 {
     let (value, at) = evidence_at(alloc, source, at)?;
     source.finish(at, Raw::Refinement(RawTac::Apply(value)))
@@ -90,7 +90,7 @@ fn apply(alloc: Global, source: &Source<'_>, at: usize) -> Result<Raw, ParseFaul
 
 /// Behind `destruct`: evidence, and then nothing, or `as` and two names in brackets.
 fn destruct(alloc: Global, source: &Source<'_>, at: usize) -> Result<Raw, ParseFault>
-    ensures { Gives sentence_of source.now result (walked (following source.now.1 no_span word.destruct) (rest source.now at)) }
+    ensures { Gives sentence_of source.now result (reading (following source.now.1 no_span word.destruct) (rest source.now at)) }
 {
     let (value, at) = evidence_at(alloc, source, at)?;
     match source.skip(at, Sign::As) {
@@ -106,7 +106,7 @@ fn destruct_as(
     value: RawExpr,
     at: usize,
 ) -> Result<Raw, ParseFault>
-    ensures { Gives sentence_of source.now result (walked (two_names (expression value)) (rest source.now at)) }
+    ensures { Gives sentence_of source.now result (reading (two_names (expression value)) (rest source.now at)) }
 {
     let at = source.expect(at, Sign::LeftBracket)?;
     let (first, at) = source.name_at(alloc, at)?;
@@ -124,7 +124,7 @@ fn destruct_as(
 
 /// Behind `assert`: a name and an expression in parentheses.
 fn assert_name(alloc: Global, source: &Source<'_>, at: usize) -> Result<Raw, ParseFault>
-    ensures { Gives sentence_of source.now result (walked (following source.now.1 no_span word.assert) (rest source.now at)) }
+    ensures { Gives sentence_of source.now result (reading (following source.now.1 no_span word.assert) (rest source.now at)) }
 {
     let at = source.expect(at, Sign::LeftParenthesis)?;
     let (name, at) = source.name_at(alloc, at)?;
@@ -135,7 +135,7 @@ fn assert_name(alloc: Global, source: &Source<'_>, at: usize) -> Result<Raw, Par
 
 /// Behind `clear`: a name.
 fn clear(alloc: Global, source: &Source<'_>, at: usize) -> Result<Raw, ParseFault>
-    ensures { Gives sentence_of source.now result (walked (following source.now.1 no_span word.clear) (rest source.now at)) }
+    ensures { Gives sentence_of source.now result (reading (following source.now.1 no_span word.clear) (rest source.now at)) }
 {
     let (name, at) = source.name_at(alloc, at)?;
     source.finish(at, Raw::Refinement(RawTac::Clear(name)))
@@ -143,7 +143,7 @@ fn clear(alloc: Global, source: &Source<'_>, at: usize) -> Result<Raw, ParseFaul
 
 /// Behind `rewrite`: an arrow or none, and evidence.
 fn rewrite(alloc: Global, source: &Source<'_>, at: usize) -> Result<Raw, ParseFault>
-    ensures { Gives sentence_of source.now result (walked (following source.now.1 no_span word.rewrite) (rest source.now at)) }
+    ensures { Gives sentence_of source.now result (reading (following source.now.1 no_span word.rewrite) (rest source.now at)) }
 {
     if let Some(at) = source.skip(at, Sign::Arrow) {
         return rewrite_by(alloc, source, false, at);
@@ -156,7 +156,7 @@ fn rewrite(alloc: Global, source: &Source<'_>, at: usize) -> Result<Raw, ParseFa
 
 /// Behind an arrow of `rewrite`, or none: evidence.
 fn rewrite_by(alloc: Global, source: &Source<'_>, back: bool, at: usize) -> Result<Raw, ParseFault>
-    ensures { Gives sentence_of source.now result (walked (arguing (λ t. made.rewrite t back)) (rest source.now at)) }
+    ensures { Gives sentence_of source.now result (reading (arguing (λ t. made.rewrite t back)) (rest source.now at)) }
 {
     let (value, at) = evidence_at(alloc, source, at)?;
     source.finish(at, Raw::Refinement(RawTac::Rewrite(value, back)))
@@ -164,7 +164,7 @@ fn rewrite_by(alloc: Global, source: &Source<'_>, back: bool, at: usize) -> Resu
 
 /// Behind `unfold`: a name, and then nothing, or `in` and a name.
 fn unfold(alloc: Global, source: &Source<'_>, at: usize) -> Result<Raw, ParseFault>
-    ensures { Gives sentence_of source.now result (walked (following source.now.1 no_span word.unfold_word) (rest source.now at)) }
+    ensures { Gives sentence_of source.now result (reading (following source.now.1 no_span word.unfold_word) (rest source.now at)) }
 {
     let (name, at) = source.name_at(alloc, at)?;
     match source.skip(at, Sign::In) {

@@ -9,13 +9,13 @@ ghost use Rattle.vern_sentence.specs.Sentences.{IsSentence, bullet_at};
 ghost use Rattle.vern_sentence.specs.Words as word;
 ghost use Rattle.vern_sentence.specs.Words.{word_of};
 ghost use Rattle.vern_sentence.specs.Trees.{Sentence};
-ghost use Rattle.vern_sentence.specs.Reading.{declaring, defining, following, stating};
+ghost use Rattle.vern_sentence.specs.Patterns.{reading};
+ghost use Rattle.vern_sentence.specs.Reading.{behind_word, declaring, defining, following, sentence_reading, stating};
 ghost use Rattle.vern_sentence.specs.Names.{IsFreeName, names_of_sentence};
 ghost use Rattle.vern_parse.specs.Meaning.{name as name_of};
 ghost use Rattle.vern_parse.specs.Answers.{IsFaultOf, IsRead, IsRefused, offset};
 ghost use Rattle.vern_parse.specs.Sentences.{command_word, groups_of, maybe_name, sentence as sentence_of};
 ghost use Rattle.vern_parse.specs.Sources.{Gives, no_span, rest};
-ghost use Rattle.vern_parse.specs.Walks.{walked, walked_sentence, walked_word};
 
 use crate::fault::ParseFault;
 use crate::groups::groups_at;
@@ -46,7 +46,7 @@ pub fn parse(alloc: Global, tokens: &Tokens, sentence: &[u8]) -> Result<Raw, Par
 
 /// The sentence that the tokens are.
 fn sentence_from(alloc: Global, source: &Source<'_>) -> Result<Raw, ParseFault>
-    ensures { Gives sentence_of source.now result (walked_sentence source.now.1 (rest source.now 0)) }
+    ensures { Gives sentence_of source.now result (sentence_reading source.now.1 (rest source.now 0)) }
 {
     match source.token_at(0) {
         Some(first) => behind_first(alloc, source, first),
@@ -58,7 +58,7 @@ fn sentence_from(alloc: Global, source: &Source<'_>) -> Result<Raw, ParseFault>
 fn behind_first(alloc: Global, source: &Source<'_>, first: Token) -> Result<Raw, ParseFault>
     requires first { rest source.now 0 ≡ lexeme source.now.1 first ∷ rest source.now 1 }
     requires slice { IsTokenOf source.now.1 first }
-    ensures { Gives sentence_of source.now result (walked_sentence source.now.1 (rest source.now 0)) }
+    ensures { Gives sentence_of source.now result (sentence_reading source.now.1 (rest source.now 0)) }
 {
     match first.kind {
         TokenKind::Name => behind_name(alloc, source, first.span),
@@ -83,7 +83,7 @@ fn bullet(span: Span, sentence: &[u8]) -> Raw
 fn behind_name(alloc: Global, source: &Source<'_>, span: Span) -> Result<Raw, ParseFault>
     requires ordered { span.from ≤ span.to }
     requires within { span.to ≤ length source.now.1 }
-    ensures { Gives sentence_of source.now result (walked_word source.now.1 (tok (kind.name (slice source.now.1 span)) span)
+    ensures { Gives sentence_of source.now result (behind_word source.now.1 (tok (kind.name (slice source.now.1 span)) span)
         (rest source.now 1) (word_of (kind.name (slice source.now.1 span)))) }
 {
     let word = bytes_of(span, source.sentence());
@@ -104,7 +104,7 @@ fn command_behind(
     at: usize,
 ) -> Result<Raw, ParseFault>
     ensures { (c : Span) → Gives sentence_of source.now result
-        (walked (following source.now.1 c (command_word command)) (rest source.now at)) }
+        (reading (following source.now.1 c (command_word command)) (rest source.now at)) }
 {
     match command {
         Command::Parameter | Command::Axiom => declaration(alloc, source, at),
@@ -120,7 +120,7 @@ fn command_behind(
 
 /// Behind `Parameter` or `Axiom`: a name and its shape.
 fn declaration(alloc: Global, source: &Source<'_>, at: usize) -> Result<Raw, ParseFault>
-    ensures { Gives sentence_of source.now result (walked declaring (rest source.now at)) }
+    ensures { Gives sentence_of source.now result (reading declaring (rest source.now at)) }
 {
     let (name, at) = source.name_at(alloc, at)?;
     let at = source.expect(at, Sign::Colon)?;
@@ -130,7 +130,7 @@ fn declaration(alloc: Global, source: &Source<'_>, at: usize) -> Result<Raw, Par
 
 /// Behind `Definition`: a name, groups, a sort or `Prop`, and a body.
 fn definition(alloc: Global, source: &Source<'_>, at: usize) -> Result<Raw, ParseFault>
-    ensures { Gives sentence_of source.now result (walked (following source.now.1 no_span word.definition) (rest source.now at)) }
+    ensures { Gives sentence_of source.now result (reading (following source.now.1 no_span word.definition) (rest source.now at)) }
 {
     let (name, at) = source.name_at(alloc, at)?;
     let (groups, at) = groups_at(alloc, source, at)?;
@@ -151,7 +151,7 @@ fn defined(
     sort: Option<RawName>,
     at: usize,
 ) -> Result<Raw, ParseFault>
-    ensures { Gives sentence_of source.now result (walked (defining (name_of name) (groups_of groups) (maybe_name sort))
+    ensures { Gives sentence_of source.now result (reading (defining (name_of name) (groups_of groups) (maybe_name sort))
         (rest source.now at)) }
 {
     let at = source.expect(at, Sign::Define)?;
@@ -161,7 +161,7 @@ fn defined(
 
 /// Behind `Lemma` or `Theorem`: a name and what it says.
 fn beginning(alloc: Global, source: &Source<'_>, at: usize) -> Result<Raw, ParseFault>
-    ensures { Gives sentence_of source.now result (walked stating (rest source.now at)) }
+    ensures { Gives sentence_of source.now result (reading stating (rest source.now at)) }
 {
     let (name, at) = source.name_at(alloc, at)?;
     let at = source.expect(at, Sign::Colon)?;

@@ -1,12 +1,12 @@
 //! A sentence with tokens of it, and the pieces that stand there.
-ghost use Rattle.std.specs.Prelude.{◌≡◌, ◌+◌, ◌<◌, ◌≤◌, ◌^◌, [], ◌∷◌, All, Err, IfOk, IfSome, MatchOption, Ok, length};
+ghost use Rattle.std.specs.Prelude.{◌≡◌, ◌+◌, ◌<◌, ◌≤◌, ◌^◌, [], ◌∷◌, All, Err, IfOk, IfSome, MatchOption, Ok, drop, false, length, true};
 ghost use Rattle.vern_lex.specs.Tokens.{IsTokenOf};
 ghost use Rattle.vern_grammar.specs.Kinds.{lexeme};
-ghost use Rattle.vern_sentence.specs.Patterns.{done, name_front, sign_front};
+ghost use Rattle.vern_sentence.specs.Patterns.{done, is_next, name_front, part_front, reading, sign_front};
 ghost use Rattle.vern_sentence.specs.Reading.{ends_as};
 ghost use Rattle.vern_sentence.specs.Slots.{names as names_slot};
 ghost use Rattle.vern_parse.specs.Meaning.{name};
-ghost use Rattle.vern_parse.specs.Walks.{closes, part, some_names, walked};
+ghost use Rattle.vern_parse.specs.Pieces.{closes, some_names};
 ghost use Rattle.vern_parse.specs.Sentences.{names_of, sentence as sentence_of, sign_of};
 ghost use Rattle.vern_parse.specs.Sources.{Gives, first_offset, rest, with_rest};
 
@@ -76,6 +76,8 @@ impl<'a> Source<'a> {
         ensures exact { MatchOption result
             (sign_front (sign_of sign) (rest self.now at) ≡ Err (rest self.now at))
             (λ n. sign_front (sign_of sign) (rest self.now at) ≡ Ok (rest self.now n)) }
+        ensures next { MatchOption result (is_next (sign_of sign) (rest self.now at) ≡ false)
+            (λ n. (is_next (sign_of sign) (rest self.now at) ≡ true) × (drop 1 (rest self.now at) ≡ rest self.now n)) }
         ensures further { IfSome result (λ n. (at < length self.now.0) × (n ≡ at + 1)) }
     {
         match self.token_at(at) {
@@ -137,7 +139,7 @@ impl<'a> Source<'a> {
     /// As many names as stand there.
     #[tactic(auto, using(crate::proofs::Steps::names_laws))]
     pub fn names_at(&self, alloc: Global, at: usize) -> Result<(RawNames, usize), ParseFault>
-        ensures exact { Gives (with_rest names_of self.now) self.now result (part names_slot (rest self.now at)) }
+        ensures exact { Gives (with_rest names_of self.now) self.now result (part_front names_slot (rest self.now at)) }
         ensures further { IfOk result (λ r. at ≤ r.1) }
     {
         let mut names = Vec::new(alloc);
@@ -163,7 +165,7 @@ impl<'a> Source<'a> {
 
     /// The sentence, where its full stop and nothing more stands there.
     pub fn finish(&self, at: usize, raw: Raw) -> Result<Raw, ParseFault>
-        ensures { Gives sentence_of self.now result (walked (ends_as (sentence_of raw)) (rest self.now at)) }
+        ensures { Gives sentence_of self.now result (reading (ends_as (sentence_of raw)) (rest self.now at)) }
     {
         let at = self.expect(at, Sign::FullStop)?;
         self.end(at, raw)
@@ -171,7 +173,7 @@ impl<'a> Source<'a> {
 
     /// The sentence, where nothing more stands there.
     pub fn end(&self, at: usize, raw: Raw) -> Result<Raw, ParseFault>
-        ensures { Gives sentence_of self.now result (walked (done (sentence_of raw)) (rest self.now at)) }
+        ensures { Gives sentence_of self.now result (reading (done (sentence_of raw)) (rest self.now at)) }
     {
         match self.token_at(at) {
             Some(token) => Err(ParseFault::At(token.span.from)),

@@ -3,7 +3,7 @@ ghost use Rattle.std.specs.Prelude.{◌≡◌, ◌+◌, ◌<◌, ◌^◌, [], �
 ghost use Rattle.std.specs.Option.{option_copied};
 ghost use Rattle.vern_grammar.specs.Machine.{depth, top, weight, in_shape};
 ghost use Rattle.vern_parse.specs.Meaning.{frame as meaning, frames};
-ghost use Rattle.vern_parse.specs.Answers.{first};
+ghost use Rattle.vern_parse.specs.Answers.{first, stacked};
 
 use crate::frames::Frame;
 use crate::levels::{BARE, OUTER};
@@ -53,6 +53,13 @@ impl Stack {
         ensures { result ≡ depth (frames self.now) }
     {
         self.depth
+    }
+
+    /// The frames, the newest last.
+    pub fn frames(&self) -> &[Frame]
+        ensures { stacked result.now ≡ self.now }
+    {
+        &self.frames
     }
 
     pub fn push(&mut self, frame: Frame) -> Result<(), NoMemory>
