@@ -5,25 +5,42 @@ use Rattle.std.specs.Prelude.{option_map, MatchOption, IfOk, Result, Ok, Err}
 use Rattle.std.specs.Borrow.{Bor}
 use Rattle.std.proofs.lemmas.Grind.{common_steps}
 use Rattle.std.proofs.lemmas.List.{append-nil, append_assoc}
-use Rattle.fol_theory.specs.Syntax.{Term as Meaning, Terms, var, app}
-use Rattle.fol_theory.specs.Measures.{term_nodes, term_height, term_reach, terms_reach}
+use Rattle.fol_theory.specs.Syntax.{Term as Meaning, Terms, Formula as FormulaMeaning, var, app}
+use Rattle.fol_theory.specs.Measures.{term_nodes, term_height, term_reach, terms_reach, nodes, height}
+use Rattle.fol_theory.specs.Printing.{unnamed}
+use Rattle.fol_theory.proofs.Names.{nodes_unnamed, height_unnamed}
 use Rattle.term_core.specs.declared.term.Term.{Term}
 use Rattle.term_core.specs.Term.{meaning, list_meaning}
+use Rattle.term_core.specs.Formula as formula
 use Rattle.env_theory.specs.Declarations.{Declaration}
-use Rattle.env_theory.specs.Scopes.{Scope, whole, CostRow, cost_row, cost_headed, costs, cost_argument, cost_table, scope_cost, value}
+use Rattle.env_theory.specs.Scopes.{
+  Scope,
+  whole,
+  under,
+  CostRow,
+  cost_row,
+  cost_headed,
+  costs,
+  cost_argument,
+  cost_table,
+  scope_cost,
+  value,
+}
 use Rattle.env_theory.specs.Scopes.{values}
 use Rattle.env_theory.specs.Machine.{ReadsTerm, ReadsTerms, left, lefts, unders}
 use Rattle.env_theory.specs.Typing.{HasSort, HaveSorts}
-use Rattle.env_theory.specs.Normal.{normal_term}
+use Rattle.env_theory.specs.Normal.{normal_term, normal, Same}
 use Rattle.env_theory.specs.Compare as theory
-use Rattle.env_theory.proofs.Values.{values_cons, term_whole}
+use Rattle.env_theory.proofs.Values.{values_cons, term_whole, formula_whole}
 use Rattle.env_theory.proofs.Agrees.{arguments_agree, arguments_left, functions_agree, variables_agree, heads_differ}
 use Rattle.conv_core.specs.declared.frame.Frame.{Frame}
 use Rattle.conv_core.specs.declared.head.Head.{Head}
 use Rattle.conv_core.specs.declared.head.Head.TheVariants.{Variable, Function}
-use Rattle.conv_core.specs.declared.compare.Pair.{Pair}
+use Rattle.conv_core.specs.declared.pair.Pair.{Pair}
+use Rattle.conv_core.specs.declared.pair.Pair.TheVariants as Pairs
 use Rattle.conv_core.specs.Frames.{scope_of, Ordered, Extends}
 use Rattle.conv_core.specs.Heads.{Standing, StandingAll, Headed}
+use Rattle.conv_core.specs.Formulas.{StandingFormula, StandingBelow, Scoped}
 use Rattle.conv_core.specs.Pairs.{pair_of, StandingPair, StandingPairs, Split, IsPair, Aligned, Pushed}
 use Rattle.conv_core.proofs.Steps.{extended}
 
@@ -67,9 +84,38 @@ headed_later E fs gs x o c by t (Function f ts d b) h = let e = sym (extended fs
   all_later E fs gs x o d b (list_meaning ts.now) h.2,
 )
 
+pub formula_later : (E : List Declaration) (fs gs : List Frame) → Extends fs gs → Ordered gs → (c : ℕ) (a : FormulaMeaning)
+    → StandingFormula E fs c a → StandingFormula E gs c a
+formula_later E fs gs x o c a s = let e = sym (extended fs gs x c s.1) in (
+  o,
+  longer fs gs x c s.1,
+  subst (λ k. Scoped E k a) e s.2,
+)
+
+pub below_later : (E : List Declaration) (fs gs : List Frame) → Extends fs gs → Ordered gs → (c : ℕ) (a : FormulaMeaning)
+    → StandingBelow E fs c a → StandingBelow E gs c a
+below_later E fs gs x o c a s = let e = sym (extended fs gs x c s.1) in (
+  o,
+  longer fs gs x c s.1,
+  subst (λ k. Scoped E (under k) a) e s.2,
+)
+
+pair_later : (E : List Declaration) (fs gs : List Frame) → Extends fs gs → Ordered gs → (p : Pair) → StandingPair E fs p
+    → StandingPair E gs p
+pair_later E fs gs x o (Pairs.Terms p) s = (
+  standing_later E fs gs x o p.first_scope p.first_by (meaning p.first.now) s.0,
+  standing_later E fs gs x o p.second_scope p.second_by (meaning p.second.now) s.1,
+)
+pair_later E fs gs x o (Pairs.Formulas p) s = (
+  formula_later E fs gs x o p.first_scope (formula.meaning p.first.now) s.0,
+  formula_later E fs gs x o p.second_scope (formula.meaning p.second.now) s.1,
+)
+
 same_pair : (E : List Declaration) (fs gs : List Frame) → Extends fs gs → (p : Pair) → StandingPair E fs p → pair_of gs p ≡ pair_of fs p
-same_pair E fs gs x p s = λ i. theory.both_terms (extended fs gs x p.first_scope s.0.1 i) p.first_by (meaning p.first.now)
+same_pair E fs gs x (Pairs.Terms p) s = λ i. theory.both_terms (extended fs gs x p.first_scope s.0.1 i) p.first_by (meaning p.first.now)
     (extended fs gs x p.second_scope s.1.1 i) p.second_by (meaning p.second.now)
+same_pair E fs gs x (Pairs.Formulas p) s = λ i. theory.both_formulas (extended fs gs x p.first_scope s.0.1 i) (formula.meaning p.first.now)
+    (extended fs gs x p.second_scope s.1.1 i) (formula.meaning p.second.now)
 
 -- ---- the whole stack
 
@@ -86,14 +132,7 @@ stack_step E fs gs x o (q ∷ qs) p new s k a l =
     let w = stack_step E fs gs x o qs p new s.1 k a l in
     let e = same_pair E fs gs x q s.0 in
     let n = ap (theory.pair_left E) e in (
-      (
-        (
-          standing_later E fs gs x o q.first_scope q.first_by
-              (meaning q.first.now) s.0.0,
-          standing_later E fs gs x o q.second_scope q.second_by (meaning q.second.now) s.0.1,
-        ),
-        w.0,
-      ),
+      (pair_later E fs gs x o q s.0, w.0),
       ((λ h. (subst (theory.Agree E) e h.0, w.1.0 h.1)), (λ h. (subst (theory.Agree E) (sym e) h.0, w.1.1 h.1))),
       omega (arith, w.2, n),
     )
@@ -114,9 +153,11 @@ aligned_more c m (s ∷ ts) d n [] qs t u p a i = absurd a
 aligned_more c m (s ∷ ts) d n (v ∷ us) [] t u p a i = absurd a
 aligned_more c m (s ∷ ts) d n (v ∷ us) (q ∷ qs) t u p a i = (a.0, aligned_more c m ts d n us qs t u p a.1 i)
 
-aligned_pair : (fs : List Frame) (c m : ℕ) (t : Term) (d n : ℕ) (u : Term) (p : Pair) → IsPair c m t d n u p → pair_of fs p
+pub aligned_pair : (fs : List Frame) (c m : ℕ) (t : Term) (d n : ℕ) (u : Term) (p : Pair) → IsPair c m t d n u p → pair_of fs p
     ≡ theory.both_terms (scope_of fs c) m (meaning t) (scope_of fs d) n (meaning u)
-aligned_pair fs c m t d n u p h = λ i. theory.both_terms (scope_of fs (h.0 i)) (h.1 i) (meaning (h.2 i)) (scope_of fs (h.3 i)) (h.4 i)
+aligned_pair fs c m t d n u (Pairs.Formulas p) h = absurd h
+aligned_pair fs c m t d n u (Pairs.Terms p) h = λ i. theory.both_terms (scope_of fs (h.0 i)) (h.1 i) (meaning (h.2 i))
+    (scope_of fs (h.3 i)) (h.4 i)
     (meaning (h.5 i))
 
 aligned_sides : (fs : List Frame) (c m : ℕ) (ts : List Term) (d n : ℕ) (us : List Term) (ps : List Pair) → Aligned c m ts d n us ps
@@ -150,9 +191,10 @@ first_stands E fs c by t ts s = go s.2.1 s.2.3
         let r = subst (λ z. terms_reach z ≤ 2 ^ 64) (values_cons E (scope_of fs c) by (meaning t) (list_meaning ts)) s.4 in
         ((s.0, s.1, (s.2.0, q, s.2.2, h.0), s.3, omega (arith, r)), (s.0, s.1, (s.2.0, qs, s.2.2, h.1), s.3, omega (arith, r)))
 
-pair_stands : (E : List Declaration) (fs : List Frame) (c m : ℕ) (t : Term) (d n : ℕ) (u : Term) (p : Pair) → IsPair c m t d n u p
+pub pair_stands : (E : List Declaration) (fs : List Frame) (c m : ℕ) (t : Term) (d n : ℕ) (u : Term) (p : Pair) → IsPair c m t d n u p
     → Standing E fs c m (meaning t) → Standing E fs d n (meaning u) → StandingPair E fs p
-pair_stands E fs c m t d n u p h x y = (
+pair_stands E fs c m t d n u (Pairs.Formulas p) h x y = absurd h
+pair_stands E fs c m t d n u (Pairs.Terms p) h x y = (
   subst (λ k. Standing E fs k p.first_by (meaning p.first.now)) (sym h.0) (subst (λ k. Standing E fs c k (meaning p.first.now))
       (sym h.1) (subst (λ k. Standing E fs c m (meaning k)) (sym h.2) x)),
   subst (λ k. Standing E fs k p.second_by (meaning p.second.now)) (sym h.3) (subst (λ k. Standing E fs d k (meaning p.second.now))
@@ -170,6 +212,38 @@ aligned_stand E fs c m (s ∷ ts) d n (v ∷ us) (q ∷ qs) a x y =
     let h = first_stands E fs c m s ts x in
     let k = first_stands E fs d n v us y in
     (pair_stands E fs c m s d n v q a.0 h.0 k.0, aligned_stand E fs c m ts d n us qs a.1 h.1 k.1)
+
+module _ (E : List Declaration) (gs : List Frame) (q : theory.Pair) (k b : ℕ) (ts : List Term) (l e : ℕ) (us : List Term)
+    (h : StandingAll E gs k b (list_meaning ts) × StandingAll E gs l e (list_meaning us))
+    (a : theory.Agree E q ↔ (values E (scope_of gs k) b (list_meaning ts) ≡ values E (scope_of gs l) e (list_meaning us)))
+    (m : lefts E (scope_of gs k) (list_meaning ts) < theory.pair_left E q) where
+  -- arguments that are left on the stack, where a pair agrees exactly where they do
+  pub arguments_split : (old new : List Pair) (r : Bool) → Pushed k b ts l e us old new r → Split E q gs old new r
+  arguments_split old new false p = λ g.
+      let none = subst (λ o. MatchOption o (values E (scope_of gs k) b (list_meaning ts)
+      ≡ values E (scope_of gs l) e (list_meaning us) → ⊥) (λ ps. theory.AllAgree E ps ↔ (values E (scope_of gs k) b
+      (list_meaning ts) ≡ values E (scope_of gs l) e (list_meaning us))))
+      (unequal_sides (scope_of gs k) b ts (scope_of gs l) e us p) (arguments_agree E (scope_of gs k) b (list_meaning ts)
+      (scope_of gs l) e (list_meaning us)) in
+      none (a.0 g)
+  arguments_split old new true (ps, i, s) =
+      let some = subst (λ o. MatchOption o (values E (scope_of gs k) b (list_meaning ts)
+      ≡ values E (scope_of gs l) e (list_meaning us) → ⊥) (λ ps. theory.AllAgree E ps ↔ (values E (scope_of gs k) b
+      (list_meaning ts) ≡ values E (scope_of gs l) e (list_meaning us))))
+      (aligned_sides gs k b ts l e us ps s) (arguments_agree E (scope_of gs k) b (list_meaning ts) (scope_of gs l) e
+      (list_meaning us)) in
+      let fewer = subst (λ o. MatchOption o (Unit {0}) (λ ps. theory.pairs_left E ps ≤ lefts E (scope_of gs k) (list_meaning ts)))
+      (aligned_sides gs k b ts l e us ps s) (arguments_left E (scope_of gs k) b (list_meaning ts) (scope_of gs l) e
+      (list_meaning us)) in (
+        ps,
+        i,
+        aligned_stand E gs k b ts l e us ps s h.0 h.1,
+        (
+          (λ x. a.1 (some.0 x)),
+          (λ g. some.1 (a.0 g)),
+        ),
+        omega (arith, fewer, m),
+      )
 
 -- ---- two heads
 
@@ -218,32 +292,8 @@ module _ (E : List Declaration) (c : Scope) (m : ℕ) (t : Meaning) (d : Scope) 
 
   pub sides_split : f.now ≡ g.now → (old new : List Pair) (r : Bool) → Pushed k b ts.now l e us.now old new r
       → Split E (theory.both_terms c m t d n u) gs old new r
-  sides_split q old new false p = λ a.
-      let none = subst (λ o. MatchOption o (values E (scope_of gs k) b (list_meaning ts.now)
-      ≡ values E (scope_of gs l) e (list_meaning us.now) → ⊥) (λ ps. theory.AllAgree E ps ↔ (values E (scope_of gs k) b
-      (list_meaning ts.now) ≡ values E (scope_of gs l) e (list_meaning us.now))))
-      (unequal_sides (scope_of gs k) b ts.now (scope_of gs l) e us.now p) (arguments_agree E (scope_of gs k) b (list_meaning ts.now)
-      (scope_of gs l) e (list_meaning us.now)) in
-      none (agree.0 a).1
-  sides_split q old new true (ps, i, s) =
-      let some = subst (λ o. MatchOption o (values E (scope_of gs k) b (list_meaning ts.now)
-      ≡ values E (scope_of gs l) e (list_meaning us.now) → ⊥) (λ ps. theory.AllAgree E ps ↔ (values E (scope_of gs k) b
-      (list_meaning ts.now) ≡ values E (scope_of gs l) e (list_meaning us.now))))
-      (aligned_sides gs k b ts.now l e us.now ps s) (arguments_agree E (scope_of gs k) b (list_meaning ts.now) (scope_of gs l) e
-      (list_meaning us.now)) in
-      let fewer = subst (λ o. MatchOption o (Unit {0}) (λ ps. theory.pairs_left E ps ≤ lefts E (scope_of gs k) (list_meaning ts.now)))
-      (aligned_sides gs k b ts.now l e us.now ps s) (arguments_left E (scope_of gs k) b (list_meaning ts.now) (scope_of gs l) e
-      (list_meaning us.now)) in (
-        ps,
-        i,
-        aligned_stand E gs k b ts.now l e us.now ps s h.2 w.2,
-        (
-          (λ x. agree.1 (q, some.0 x)),
-          (λ a. some.1
-              (agree.0 a).1),
-        ),
-        omega (arith, fewer, h.1),
-      )
+  sides_split q old new r p = arguments_split E gs (theory.both_terms c m t d n u) k b ts.now l e us.now (h.2, w.2)
+      ((λ a. (agree.0 a).1), (λ v. agree.1 (q, v))) h.1 old new r p
 
 -- ---- the start
 
@@ -347,3 +397,21 @@ pub heights_differ : (E : List Declaration) (t u : Meaning) (n m : ℕ) → n �
 heights_differ E t u n m e f d s = d (e ∙ ap (λ v. min (term_height v) (2 ^ 32)) s ∙ sym f)
 
 pub ruleset sizes = (nodes_differ, heights_differ)
+
+pub formula_nodes_differ : (E : List Declaration) (a b : FormulaMeaning) (n m : ℕ) → n ≡ min (nodes (normal E a)) (2 ^ 32)
+    → m ≡ min (nodes (normal E b)) (2 ^ 32) → (n ≡ m → ⊥) → Same E a b → ⊥
+formula_nodes_differ E a b n m e f d s = d (e ∙ ap (λ k. min k (2 ^ 32)) (sym (nodes_unnamed (normal E a)) ∙ ap nodes s ∙
+    nodes_unnamed (normal E b)) ∙ sym f)
+
+pub formula_heights_differ : (E : List Declaration) (a b : FormulaMeaning) (n m : ℕ) → n ≡ min (height (normal E a)) (2 ^ 32)
+    → m ≡ min (height (normal E b)) (2 ^ 32) → (n ≡ m → ⊥) → Same E a b → ⊥
+formula_heights_differ E a b n m e f d s = d (e ∙ ap (λ k. min k (2 ^ 32)) (sym (height_unnamed (normal E a)) ∙ ap height s ∙
+    height_unnamed (normal E b)) ∙ sym f)
+
+pub ruleset formula_sizes = (formula_nodes_differ, formula_heights_differ)
+
+pub start_formulas : (E : List Declaration) (a b : FormulaMeaning) → theory.Agree E (theory.both_formulas whole a whole b) ↔ Same E a b
+start_formulas E a b = (
+  (λ h. ap unnamed (sym (formula_whole E a)) ∙ h ∙ ap unnamed (formula_whole E b)),
+  (λ h. ap unnamed (formula_whole E a) ∙ h ∙ ap unnamed (sym (formula_whole E b))),
+)

@@ -4,3 +4,4 @@ pub mod Elements
 pub mod Tops
 pub mod Limits
 pub mod Compares
+pub mod Splits

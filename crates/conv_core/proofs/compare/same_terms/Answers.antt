@@ -22,4 +22,4 @@ returns c =
     (meaning c.args.t.now) ≡ value (declarations c.args.env.now) (scope_of fs 0) 0 (meaning c.args.u.now)) ↔ (normal_term
     (declarations c.args.env.now) (meaning c.args.t.now) ≡ normal_term (declarations c.args.env.now) (meaning c.args.u.now)))
     (sym c.new-frames.ensures.items) (start_agree (declarations c.args.env.now) (meaning c.args.t.now)
-    (meaning c.args.u.now)))) c.agree.ensures.agree
+    (meaning c.args.u.now)))) c.agree.ensures

@@ -1,7 +1,7 @@
 use Rattle.std.proofs.Common.{◌≡◌, ◌-◌, ◌≤◌, List, ◌++◌, length, take}
-use Rattle.conv_core.specs.declared.compare.Pair.{Pair}
+use Rattle.conv_core.specs.declared.pair.Pair.{Pair}
 use Rattle.conv_core.specs.Pairs.{Aligned}
-use Rattle.conv_core.proofs.compare.push_sides.Given as goal
+use Rattle.conv_core.proofs.terms.push_sides.Given as goal
 
 abbrev pub invariant-loop-i : goal.invariant-loop-i
 invariant-loop-i l = (length l.ts ≡ length l.us) × (l.i ≤ length l.ts) ×

@@ -1,6 +1,6 @@
 use Rattle.std.proofs.Common.{refl}
 use Rattle.conv_core.proofs.Compares.{side_pushed}
-use Rattle.conv_core.proofs.compare.push_sides.Goals as goal
+use Rattle.conv_core.proofs.terms.push_sides.Goals as goal
 
 pub loop-i-preserved : goal.loop-i-preserved
 loop-i-preserved c =

@@ -6,7 +6,7 @@ use Rattle.conv_core.specs.Heads.{Headed}
 use Rattle.conv_core.proofs.Steps.{extended}
 use Rattle.conv_core.proofs.Compares.{standing_later, headed_later, variables_split, variables_fail, heads_fail, names_fail}
 use Rattle.conv_core.proofs.Compares.{sides_split, if_ok}
-use Rattle.conv_core.proofs.compare.split.Goals as goal
+use Rattle.conv_core.proofs.terms.split_terms.Goals as goal
 
 pub head_of-requires-2-clause-standing : goal.head_of-requires-2-clause-standing
 head_of-requires-2-clause-standing c =
