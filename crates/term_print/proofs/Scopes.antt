@@ -1,44 +1,12 @@
 -- Names that are kept in two lists.
-use Rattle.std.proofs.Common.{
-  ◌≡◌,
-  ℕ,
-  zero,
-  suc,
-  ◌+◌,
-  ◌-◌,
-  ◌^◌,
-  ◌<◌,
-  ◌≤◌,
-  ◌||◌,
-  ◌⊎◌,
-  inl,
-  inr,
-  drop,
-  List,
-  [],
-  ◌∷◌,
-  ◌++◌,
-  length,
-  get_or,
-  Bool,
-  true,
-  false,
-  if◌then◌else◌,
-  refl,
-  sym,
-  ap,
-  ◌∙◌,
-  arith,
-  length-append,
-}
+use Rattle.std.proofs.Common.{◌≡◌, ℕ, zero, suc, ◌+◌, ◌-◌, ◌^◌, ◌<◌, ◌≤◌, ◌||◌, ◌⊎◌, inl, inr, List, [], ◌∷◌, ◌++◌, length, get_or, Bool, true, false, refl, sym, ap, ◌∙◌, arith}
 use Rattle.std.specs.Prelude.{nat_eq}
 use Rattle.std.specs.Cmp.Lexicographic.{pointwise}
 use Rattle.std.specs.Fmt.{decimal}
 use Rattle.std.proofs.lemmas.Bool.{cases_lt}
-use Rattle.std.proofs.lemmas.List.{drop_all}
 use Rattle.std.proofs.lemmas.Fmt.{decimal-digits_of, decimal_digit}
 use Rattle.elab_theory.specs.Sentences.{is_among}
-use Rattle.print_theory.specs.Names.{name_of, numeral, numbered, free_from}
+use Rattle.print_theory.specs.Names.{name_of, numeral, numbered}
 use Rattle.print_theory.specs.Printing.{bound_name}
 use Rattle.print_theory.proofs.Picks.{among_append, not_in_first, or_left, picked_unused}
 use Rattle.term_print.specs.Output.{Names, names_onto, all_names, used_names}
@@ -46,6 +14,10 @@ use Rattle.term_print.specs.Output.{Names, names_onto, all_names, used_names}
 pub onto_push : (xs ys : List (List ℕ)) (y : List ℕ) → names_onto xs (ys ++ (y ∷ [])) ≡ y ∷ names_onto xs ys
 onto_push xs [] y = refl
 onto_push xs (z ∷ ys) y = onto_push (z ∷ xs) ys y
+
+-- a binder more is open
+abbrev pub opened : List ℕ → Names → Names
+opened y s = record { bound = s.bound ++ (y ∷ []); outer = s.outer; taken = s.taken }
 
 or_swap : (s t u : Bool) → (s || (t || u)) ≡ ((t || s) || u)
 or_swap true true u = refl

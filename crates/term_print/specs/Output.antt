@@ -1,5 +1,9 @@
 -- Tokens that are written one after the other, and names of variables, as the code keeps them.
-use Rattle.std.specs.Prelude.{ℕ, List, [], ◌∷◌, ◌++◌, Bool, true, false}
+use Rattle.std.specs.Prelude.{◌≡◌, ◌<◌, ℕ, List, [], ◌∷◌, ◌++◌, Bool, true, false, nat_eq, Some}
+use Rattle.std.specs.Cmp.Lexicographic.{pointwise}
+use Rattle.indexmap.specs.IndexMap.{IndexMap, get}
+use Rattle.elab_theory.specs.Sentences.{is_among}
+use Rattle.print_theory.specs.Names.{numbered}
 use Rattle.vern_grammar.specs.Trees as tree
 use Rattle.vern_grammar.specs.Kinds.{Kind, closing, comma, name, opening, other}
 use Rattle.fol_theory.specs.Syntax.{Terms}
@@ -78,6 +82,18 @@ all_names s = names_onto s.outer s.bound
 -- the names that no binder gets
 abbrev pub used_names : Names → List (List ℕ)
 used_names s = all_names s ++ s.taken
+
+-- those of them that no binder has
+abbrev pub names_outside : Names → List (List ℕ)
+names_outside s = s.outer ++ s.taken
+
+-- a name with each of the first so many numbers is one of some names
+abbrev pub AreUsed : List ℕ → ℕ → List (List ℕ) → Type 0
+AreUsed x n used = (j : ℕ) → j < n → is_among (numbered x j) used ≡ true
+
+-- each name of a map is so used with as many numbers as stand there
+abbrev pub ArePassed : {S : Type 0} → IndexMap (List ℕ) ℕ S → List (List ℕ) → Type 0
+ArePassed m used = (x : List ℕ) (n : ℕ) → get (pointwise nat_eq) m x ≡ Some n → AreUsed x n used
 
 -- a name with its arguments
 abbrev pub application_tokens : List (List ℕ) → ℕ → List ℕ → Terms → List Kind

@@ -3,22 +3,24 @@ ghost use Rattle.std.specs.Prelude.{◌≡◌, ◌++◌, ◌-◌, ◌∷◌, [],
 ghost use Rattle.elab_theory.specs.Sentences.{is_among};
 ghost use Rattle.print_theory.specs.Names.{free_from, name_of, numbered};
 ghost use Rattle.print_theory.specs.Printing.{bound_name};
-ghost use Rattle.term_print.specs.Output.{all_names, used_names};
+ghost use Rattle.term_print.specs.Output.{all_names, used_names, names_outside, AreUsed};
 
 use base_core::{NoMemory, SharedBytes};
-use indexmap::IndexSet;
+use indexmap::{IndexMap, IndexSet};
 use itoa::Buffer;
 use std::alloc::Global;
 use std::marker::Model;
 use term_core::{Name, Taken};
 
 /// The names of the binders that are open, the oldest first, no two of which are equal; those of the variables outside,
-/// the newest first; and the names that are taken. A name is found among the first without going through them.
+/// the newest first; and the names that are taken. A name is found among the first without going through them. Of a name
+/// that was numbered it is kept how many numbers from 0 on the last two use up, so that the next binder doesn't try those.
 #[derive(Drop)]
 pub struct Scope<'a, T: Taken> {
     bound: IndexSet<Name>,
     outer: &'a [Name],
     taken: &'a T,
+    passed: IndexMap<Name, u64>,
 }
 
 impl<'a, T: Taken> Model for Scope<'a, T> {
@@ -26,7 +28,12 @@ impl<'a, T: Taken> Model for Scope<'a, T> {
 
     ghost Value = { Names };
 
+    ghost use Rattle.std.specs.Prelude.{◌++◌};
+    ghost use Rattle.term_print.specs.Output.{ArePassed};
+
     ghost view = { λ s. record { bound = s.bound.keys; outer = s.outer.now; taken = T.taken s.taken.now } };
+
+    ghost invariant = { λ s. ArePassed s.passed (s.outer.now ++ T.taken s.taken.now) };
 }
 
 impl<'a, T: Taken> Scope<'a, T> {
@@ -38,6 +45,7 @@ impl<'a, T: Taken> Scope<'a, T> {
             bound: IndexSet::new(alloc),
             outer,
             taken,
+            passed: IndexMap::new(alloc),
         }
     }
 
@@ -67,9 +75,17 @@ impl<'a, T: Taken> Scope<'a, T> {
         self.taken.is_taken(name)
     }
 
+    /// Whether a name is taken or that of a variable outside.
+    fn is_outside(&self, name: &Name) -> bool
+        ensures { result ≡ is_among name.now (names_outside self.now) }
+    {
+        is_among(name, self.outer) || self.taken.is_taken(name)
+    }
+
     /// The name that a binder gets.
-    pub fn picked(&self, name: &Name) -> Result<Name, NoMemory>
-        ensures { IfOk result (λ y. y ≡ bound_name (all_names self.now) self.now.taken name.now) }
+    pub fn picked(&mut self, name: &Name) -> Result<Name, NoMemory>
+        ensures picked { IfOk result (λ y. y ≡ bound_name (all_names self.old) self.old.taken name.now) }
+        ensures scope { self.new ≡ self.old }
     {
         if self.is_used(name) {
             self.free_name(name)
@@ -79,14 +95,59 @@ impl<'a, T: Taken> Scope<'a, T> {
     }
 
     /// The name with the least number with which it isn't used. No list of names has so many that the numbers run out.
-    fn free_name(&self, name: &Name) -> Result<Name, NoMemory>
+    fn free_name(&mut self, name: &Name) -> Result<Name, NoMemory>
+        ensures free { IfOk result (λ y. y ≡ free_from (length (used_names self.old)) 0 name.now (used_names self.old)) }
+        ensures scope { self.new ≡ self.old }
+    {
+        let from = self.pass(name)?;
+        self.free_name_from(name, from)
+    }
+
+    /// The same, from a number on, where it is used with all below.
+    fn free_name_from(&self, name: &Name, from: u64) -> Result<Name, NoMemory>
+        requires { AreUsed name.now from (used_names self.now) }
         ensures { IfOk result (λ y. y ≡ free_from (length (used_names self.now)) 0 name.now (used_names self.now)) }
     {
         let alloc = *self.bound.allocator();
-        for k in 0..u64::MAX {
+        for k in from..u64::MAX {
             let candidate = numbered(alloc, name, k)?;
             if !self.is_used(&candidate) {
                 return Ok(candidate);
+            }
+        }
+        Err(NoMemory)
+    }
+
+    /// How many numbers from 0 on the names outside and those that are taken use up, which is kept.
+    fn pass(&mut self, name: &Name) -> Result<u64, NoMemory>
+        ensures used { IfOk result (λ n. AreUsed name.now n (used_names self.old)) }
+        ensures scope { self.new ≡ self.old }
+    {
+        let count = self.count_outside(name, self.kept(name))?;
+        self.passed.insert(name.copy()?, count)?;
+        Ok(count)
+    }
+
+    /// How many are known.
+    fn kept(&self, name: &Name) -> u64
+        ensures { AreUsed name.now result (names_outside self.now) }
+    {
+        match self.passed.get(name) {
+            Some(count) => *count,
+            None => 0,
+        }
+    }
+
+    /// How many there are, where so many are known.
+    fn count_outside(&self, name: &Name, known: u64) -> Result<u64, NoMemory>
+        requires { AreUsed name.now known (names_outside self.now) }
+        ensures { IfOk result (λ n. AreUsed name.now n (names_outside self.now)) }
+    {
+        let alloc = *self.bound.allocator();
+        for k in known..u64::MAX {
+            let candidate = numbered(alloc, name, k)?;
+            if !self.is_outside(&candidate) {
+                return Ok(k);
             }
         }
         Err(NoMemory)

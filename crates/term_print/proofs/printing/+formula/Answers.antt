@@ -7,7 +7,7 @@ use Rattle.print_theory.specs.Printing.{bound_name, enclosed, formula_tokens, qu
 use Rattle.term_core.specs.Formula.{meaning}
 use Rattle.term_print.specs.Output.{all_names, operator, put_token, put_tokens}
 use Rattle.term_print.proofs.Puts.{closed_by_steps, joined_by_steps}
-use Rattle.term_print.proofs.Scopes.{onto_push, picked_new}
+use Rattle.term_print.proofs.Scopes.{onto_push, opened, picked_new}
 use Rattle.term_print.proofs.printing.+formula.Goals as goal
 
 pub write_joined-returns-clause-text : goal.write_joined-returns-clause-text
@@ -37,14 +37,14 @@ write_bound-returns-clause-text g t c =
     let y = bound_name (all_names scope) scope.taken c.args.name.now in
     let body = meaning c.args.body.now in
     let ks = formula_tokens (y ∷ all_names scope) scope.taken quantifier_level body in
-    let entered = c.in_ok-enter.ensures in
+    let entered = c.in_ok-enter.ensures ∙ ap (opened c.in_ok-picked.picked) c.in_ok-picked.ensures.scope in
     let names = ap all_names entered ∙ onto_push scope.outer scope.bound c.in_ok-picked.picked ∙
-    ap (λ x. x ∷ all_names scope) c.in_ok-picked.ensures in
+    ap (λ x. x ∷ all_names scope) c.in_ok-picked.ensures.picked in
     let taken = ap (λ s. s.taken) entered in
     let wrote = c.in_ok-write_formula.ensures.text ∙
     (λ i. put_tokens c.comma.new.self (formula_tokens (names i) (taken i) quantifier_level body)) in
     let named = c.in_ok-name.ensures ∙
-    (λ i. put_token (c.in_ok-quantifier.ensures i) (name ((c.as_slice.ensures ∙ c.in_ok-picked.ensures) i))) in
+    (λ i. put_token (c.in_ok-quantifier.ensures i) (name ((c.as_slice.ensures ∙ c.in_ok-picked.ensures.picked) i))) in
     let coloned = c.in_ok-colon.ensures ∙ ap (λ w. put_token w colon) named in
     let sorted = c.in_ok-name-2.ensures ∙ (λ i. put_token (coloned i) (name (c.as_slice-2.ensures i))) in
     let listed = c.in_ok-comma.ensures ∙ ap (λ w. put_token w comma) sorted in
@@ -57,6 +57,7 @@ write_bound-returns-clause-text g t c =
 pub write_bound-enter-requires : goal.write_bound-enter-requires
 write_bound-enter-requires g t c =
     let scope = c.args.scope.now in
-    let new : is_among c.in_ok-picked.picked scope.bound ≡ false = ap (λ y. is_among y scope.bound) c.in_ok-picked.ensures ∙
-    picked_new c.args.name.now scope in
+    let y = c.in_ok-picked.picked in
+    let new : is_among y c.picked.new.self.bound ≡ false = ap (λ s. is_among y s.bound) c.in_ok-picked.ensures.scope
+    ∙ ap (λ y. is_among y scope.bound) c.in_ok-picked.ensures.picked ∙ picked_new c.args.name.now scope in
     record { new = new }

@@ -3,8 +3,8 @@ use Rattle.elab_theory.specs.Sentences.{is_among}
 use Rattle.print_theory.specs.Names.{numbered}
 use Rattle.print_theory.proofs.Picks.{free_by_tries}
 use Rattle.term_print.specs.Output.{used_names}
-use Rattle.term_print.proofs.Scopes.{no_try, one_try_more}
-use Rattle.term_print.proofs.scope.Scope.free_name.Goals as goal
+use Rattle.term_print.proofs.Scopes.{one_try_more}
+use Rattle.term_print.proofs.scope.Scope.free_name_from.Goals as goal
 
 pub returns-then-not-is_used : goal.returns-then-not-is_used
 returns-then-not-is_used g c =
@@ -23,4 +23,4 @@ loop-k-preserved g c =
     one_try_more x (used_names s) c.loop-k.k used c.loop-k.invariant
 
 pub loop-k-init : goal.loop-k-init
-loop-k-init g c = no_try c.args.name.now (used_names c.args.self.now)
+loop-k-init g c = c.requires
