@@ -112,8 +112,8 @@ fn passed(frames: &[Frame], op: RawOp, fits: bool) -> Option<(&Head, &[Frame])>
     ensures { MatchOption result
         (takes_first (operator op) fits (meaning (stacked frames.now)) ≡ false)
         (λ p. (stacked frames.now ≡ Governor p.0.now ∷ stacked p.1.now)
-            × (length p.1.now < length frames.now)
-            × (takes_first (operator op) fits (meaning (stacked frames.now)) ≡ true)) }
+        × (length p.1.now < length frames.now)
+        × (takes_first (operator op) fits (meaning (stacked frames.now)) ≡ true)) }
 {
     let (newest, before) = frames.split_last()?;
     match newest {
