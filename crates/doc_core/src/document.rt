@@ -1,5 +1,5 @@
 //! The document with its history.
-ghost use Rattle.std.specs.Prelude.{◌≡◌, ◌≤◌, ◌<◌, ◌+◌, ◌++◌, [], ◌∷◌, true, false, IfOk, OnOk, OnErr};
+ghost use Rattle.std.specs.Prelude.{◌≡◌, ◌≤◌, ◌<◌, ◌+◌, ◌^◌, ◌++◌, [], ◌∷◌, true, false, length, IfOk, OnOk, OnErr};
 ghost use Rattle.doc_theory.specs.Histories.{IsNumbered, shut};
 ghost use Rattle.doc_core.specs.Histories.{Legal};
 ghost use Rattle.doc_core.specs.Kept.{IsReserved, Takes, at, done_by};
@@ -93,6 +93,7 @@ impl Document {
         ensures takes { OnOk result (Takes self.old self.new request out.old out.new) }
         ensures spare { OnOk result (self.new.spare + 1 ≡ self.old.spare) }
         ensures limit { self.new.limit ≡ self.old.limit }
+        ensures numbered { OnOk result (length self.new.history < 2 ^ 64) }
         ensures err { OnErr result (self.new ≡ self.old) }
         ensures silent { OnErr result (out.new ≡ out.old) }
         ensures steps { steps.new ≡ steps.old }

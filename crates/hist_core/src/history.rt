@@ -1,5 +1,5 @@
 //! The list of what happened in a session.
-ghost use Rattle.std.specs.Prelude.{◌≡◌, ◌<◌, ◌≤◌, ◌+◌, ◌++◌, [], ◌∷◌, drop, length, IsOk, OnErr, OnOk};
+ghost use Rattle.std.specs.Prelude.{◌≡◌, ◌<◌, ◌≤◌, ◌+◌, ◌^◌, ◌++◌, [], ◌∷◌, drop, length, IsOk, OnErr, OnOk};
 ghost use Rattle.hist_core.specs.Events.{event};
 
 use crate::entry::Entry;
@@ -59,6 +59,7 @@ impl History {
         requires { 0 < self.old.spare }
         ensures items { self.new.items ≡ self.old.items ++ event entry ∷ [] }
         ensures spare { self.new.spare + 1 ≡ self.old.spare }
+        ensures numbered { length self.new.items < 2 ^ 64 }
     {
         self.entries.push_reserved(entry);
     }

@@ -155,14 +155,14 @@ fn each_request_is_answered(rt: HostRuntime) -> Result<(), Fail> {
             b")\n\"\\q\"\n",
             b"(BadInput 0 StrayClose 0)\n(BadInput 1 BadEscape 3)\n",
         ),
-        // A text may have a quote, but none of its bytes ends a line.
+        // A text may have a quote, which begins no name, and a line end, which is a blank.
         (
             b"(Add () \"Parameter \\\" : Prop.\")",
             b"(Answer 0 Ack)\n(Answer 0 (CoqExn (Parse 10)))\n(Answer 0 Completed)\n",
         ),
         (
             b"(Add () \"Parameter \\n : Prop.\")",
-            b"(Answer 0 Ack)\n(Answer 0 (CoqExn Unsupported))\n(Answer 0 Completed)\n",
+            b"(Answer 0 Ack)\n(Answer 0 (CoqExn (Parse 12)))\n(Answer 0 Completed)\n",
         ),
         (
             b"(Add ((lim 1)) \"Parameter A : Prop.\")",

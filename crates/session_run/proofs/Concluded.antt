@@ -11,21 +11,36 @@ use Rattle.serapi_cmd.specs.declared.request.Request.{Request}
 use Rattle.serapi_cmd.specs.declared.request.Request.TheVariants.{Do, Bad}
 use Rattle.serapi_ans.specs.declared.line.Line.{Line}
 use Rattle.base_core.specs.Lists.{Begins}
+use Rattle.doc_theory.specs.Documents.{Document}
+use Rattle.doc_theory.specs.Answers.{Cut, whole, after}
+use Rattle.doc_theory.specs.Histories.{
+  Event,
+  command,
+  claim,
+  none_waiting,
+  returned,
+  lose,
+  join_answered,
+  join_not_yet,
+  join_stopped,
+  shut,
+  requests,
+  outcomes,
+}
+use Rattle.doc_core.specs.Answers.{MayBe, answer, last_lines, perform}
+use Rattle.doc_core.specs.Histories.{Standing, start, step, Legal, LegalFrom, render}
+use Rattle.doc_core.specs.declared.document.TheConstants.{LIVE_LIMIT}
+use Rattle.doc_core.proofs.Grown.{is_answered}
+use Rattle.session_run.specs.Closing.{is_closed, rendered}
 use Rattle.session_run.specs.Items.{has_quit}
-use Rattle.session_run.specs.Answers.{Document, MayBe, answer, command_lines, last_lines}
-use Rattle.session_run.specs.Histories.{Standing, start, step, Legal, LegalFrom, is_closed, render, requests, outcomes}
 use Rattle.session_run.specs.Headline.{AllWhole, Call, EndsClean, EndsInside, HasCompleteness, HasDoneCause, HasLegalHistory}
 use Rattle.session_run.specs.Headline.{HasReadFaultCause, HasTooLongCause, HasTruncatedCause, HasWriteFaultCause, IsAnswered, IsClean}
-use Rattle.session_run.specs.Headline.{IsOrLost, IsQuit, IsSession, IsStatus, IsTruncated, any_short, has_short, is_short}
+use Rattle.session_run.specs.Headline.{IsOrLost, IsQuit, IsSession, IsStatus, IsTruncated, has_short, is_short}
 use Rattle.session_run.specs.Headline.{requests_read}
 use Rattle.session_run.specs.Serving.{Between, HasStopped, IsAll, Served, UnlessLost, between}
 use Rattle.session_run.specs.Statuses.{status_of}
-use Rattle.session_run.proofs.Grown.{differs, one_thread}
+use Rattle.session_run.proofs.Grown.{differs}
 use Rattle.session_run.proofs.Progress.{or-left, or-right}
-use Rattle.session_run.specs.declared.cut.Cut.{Cut}
-use Rattle.session_run.specs.declared.cut.Cut.TheVariants.{Whole, After}
-use Rattle.session_run.specs.declared.history.Entry.{Entry}
-use Rattle.session_run.specs.declared.history.Entry.TheVariants.{Command, Close}
 use Rattle.session_run.specs.declared.party.Loss.TheVariants.{WriteFault, WantOfMemory}
 use Rattle.session_run.specs.declared.serve.Stop.{Stop}
 use Rattle.session_run.specs.declared.serve.Stop.TheVariants.{Quit, End, Fault, Limit, Lost}
@@ -280,9 +295,9 @@ written-prefix false a b xs w = (length xs, subst (Appends a b) (sym (take_all (
 written-prefix true a b xs w = w
 
 -- where no write failed, all that the history renders was written
-pub whole-put : (o : Output) (h : List Entry) → IsPut (fresh o) (render h) o → o.failed ≡ false
-    → Appends o.first_written o.written (render h)
-whole-put o h put e = subst (λ g. Grew false g o.first_written o.written (render h)) e put.grew
+pub whole-put : (o : Output) (h : List Event) → IsPut (fresh o) (rendered h) o → o.failed ≡ false
+    → Appends o.first_written o.written (rendered h)
+whole-put o h put e = subst (λ g. Grew false g o.first_written o.written (rendered h)) e put.grew
 
 not-failed : (failed : Bool) (f g : ℕ) → Stood f g → (failed ≡ true → Rose f g) → failed ≡ false
 not-failed false f g h r = refl
@@ -338,35 +353,42 @@ has_short-append (x ∷ xs) ys = ap (λ b. is_short x || b) (has_short-append xs
     grouped true b c = refl
     grouped false b c = refl
 
-or-true : (a b : Bool) → b ≡ true → (a || b) ≡ true
-or-true true b e = refl
-or-true false b e = e
+short-both : (xs ys : List Line) → has_short (xs ++ ys) ≡ false → (has_short xs ≡ false) × (has_short ys ≡ false)
+short-both xs ys e =
+    let both : (has_short xs || has_short ys) ≡ false = sym (has_short-append xs ys) ∙ e in
+    (or-left (has_short xs) (has_short ys) both, or-right (has_short xs) (has_short ys) both)
 
-whole-cut : (d : Document) (q : Request) (cut : Cut) → MayBe q cut → has_short (answer d q cut).lines ≡ false → cut ≡ Whole
-whole-cut d q Whole may e = refl
-whole-cut d (Bad b) (After n) may e = absurd may
-whole-cut d (Do t) (After n) may e =
-    let xs = command_lines d t.tag t.command (After n) in
-    let short : has_short (xs ++ last_lines t.tag (After n)) ≡ true = has_short-append xs (last_lines t.tag (After n))
-    ∙ or-true (has_short xs) true refl in
-    let d : true ≡ false = sym short ∙ e in
-    absurd (cc)
+-- a request that was cut has a line that says so
+whole-cut : (d : Document) (q : Request) (cut : Cut) → MayBe d q cut → has_short (answer d q cut).lines ≡ false → cut ≡ whole
+whole-cut d q whole may e = refl
+whole-cut d (Bad b) (after n) may e = absurd may
+whole-cut d (Do t) (after n) may e =
+    let xs = (perform d t.tag t.command (after n)).lines in
+    let short : has_short (last_lines t.tag (after n)) ≡ false = (short-both xs (last_lines t.tag (after n)) e).1 in
+    differs true (after n ≡ whole) refl short
 
-all_whole : (p : Standing) (h : List Entry) → LegalFrom p h → any_short h ≡ false → AllWhole (outcomes h)
+all_whole : (p : Standing) (h : List Event) → LegalFrom p h → has_short (render h) ≡ false → AllWhole (outcomes h)
 all_whole p [] l e = tt
-all_whole p (Command n q cut ls ∷ es) l e = (
-  whole-cut p.document q cut l.0.may (ap has_short (sym l.0.lines) ∙ or-left (has_short ls) (any_short es) e),
-  all_whole (step p (Command n q cut ls)) es l.1 (or-right (has_short ls) (any_short es) e),
+all_whole p (command n q cut ls ∷ es) l e = (
+  whole-cut p.document q cut l.0.may (ap has_short (sym l.0.lines) ∙ (short-both ls (render es) e).0),
+  all_whole (step p (command n q cut ls)) es l.1 (short-both ls (render es) e).1,
 )
-all_whole p (Close ∷ es) l e = all_whole (step p Close) es l.1 e
+all_whole p (shut ∷ es) l e = all_whole (step p shut) es l.1 e
+all_whole p (claim s n ∷ es) l e = absurd l.0
+all_whole p (none_waiting s ∷ es) l e = absurd l.0
+all_whole p (returned s n kept ∷ es) l e = absurd l.0
+all_whole p (lose s n ∷ es) l e = absurd l.0
+all_whole p (join_answered ∷ es) l e = absurd l.0
+all_whole p (join_not_yet n s ∷ es) l e = absurd l.0
+all_whole p (join_stopped ∷ es) l e = absurd l.0
 
 -- ---- the theorem
 
 -- a closed history isn't empty
-pub closed-some : (h : List Entry) (A : Type 0) → is_closed h ≡ true → h ≡ [] → A
+pub closed-some : (h : List Event) (A : Type 0) → is_closed h ≡ true → h ≡ [] → A
 closed-some h A c e = differs (is_closed h) A c (ap is_closed e)
 
-legal-closed : (c : Call) (h : List Entry) → Legal h → is_closed h ≡ true → HasLegalHistory c h
+legal-closed : (c : Call) (h : List Event) → Legal LIVE_LIMIT h → is_closed h ≡ true → HasLegalHistory c h
 legal-closed c [] l e = let d : false ≡ true = e in absurd (cc)
 legal-closed c (x ∷ xs) l e = (l, e)
 
@@ -375,23 +397,24 @@ first-of : (c : Call) → IfSome c.left_before (λ all. Begins (requests c.histo
 first-of c b = mapped c.left_before _ (λ all. take (length (requests c.history)) (requests_read c all) ≡ requests c.history)
     (λ all f. ap (take (length (requests c.history))) f.1 ∙ take-append_seam (requests c.history) f.0) b
 
-completed : (c : Call) → Facts c → (any_short c.history ≡ false → AllWhole (outcomes c.history)) → IsStatus c.status → HasCompleteness c
-completed c f whole (inl e) sr sw = inr (inr (record { all = f.whole (inl e); whole = whole; which = inl (e, f.which e) }))
-completed c f whole (inr (inl e)) sr sw =
+completed : (c : Call) → Facts c → (has_short (render c.history) ≡ false → AllWhole (outcomes c.history)) → IsStatus c.status →
+    HasCompleteness c
+completed c f all_done (inl e) sr sw = inr (inr (record { all = f.whole (inl e); whole = all_done; which = inl (e, f.which e) }))
+completed c f all_done (inr (inl e)) sr sw =
     absurd (let rose : Rose c.read_faults_before c.read_faults_after = f.read_fault.only e in omega arith)
-completed c f whole (inr (inr (inl e))) sr sw =
+completed c f all_done (inr (inr (inl e))) sr sw =
     absurd (let rose : Rose c.write_faults_before c.write_faults_after = f.write_fault.only e in omega arith)
-completed c f whole (inr (inr (inr (inl e)))) sr sw = inr (inl e)
-completed c f whole (inr (inr (inr (inr (inl e))))) sr sw =
-    inr (inr (record { all = f.whole (inr (inr (inl e))); whole = whole; which = inr (inl (e, f.truncated_end e)) }))
-completed c f whole (inr (inr (inr (inr (inr e))))) sr sw =
-    inr (inr (record { all = f.whole (inr (inr (inr e))); whole = whole; which = inr (inr (e, f.too_long.only e)) }))
+completed c f all_done (inr (inr (inr (inl e)))) sr sw = inr (inl e)
+completed c f all_done (inr (inr (inr (inr (inl e))))) sr sw =
+    inr (inr (record { all = f.whole (inr (inr (inl e))); whole = all_done; which = inr (inl (e, f.truncated_end e)) }))
+completed c f all_done (inr (inr (inr (inr (inr e))))) sr sw =
+    inr (inr (record { all = f.whole (inr (inr (inr e))); whole = all_done; which = inr (inr (e, f.too_long.only e)) }))
 
 -- what the parts of a closed session are, in the words of its call
 pub record IsParted (c : Call) (o : Output) : Type 0 where
-  pub legal : Legal c.history
+  pub legal : Legal LIVE_LIMIT c.history
   pub closed : is_closed c.history ≡ true
-  pub put : IsPut (fresh o) (render c.history) o
+  pub put : IsPut (fresh o) (rendered c.history) o
   pub cause : o.failed ≡ true → Rose o.first_faults o.faults
   pub first_written : c.written_before ≡ o.first_written
   pub written : c.written_after ≡ o.written
@@ -421,16 +444,16 @@ concludes c how left o served is p =
         limit = served.limit;
       };
       written = record {
-        whole = λ w. bytes (λ a b. Appends a b (render c.history)) (whole-put o c.history p.put (clean-from c how o.failed is rose w));
-        prefix = bytes (λ a b. AppendsPrefix a b (render c.history))
-            (written-prefix o.failed o.first_written o.written (render c.history) p.put.grew);
+        whole = λ w. bytes (λ a b. Appends a b (rendered c.history)) (whole-put o c.history p.put (clean-from c how o.failed is rose w));
+        prefix = bytes (λ a b. AppendsPrefix a b (rendered c.history))
+            (written-prefix o.failed o.first_written o.written (rendered c.history) p.put.grew);
       };
-      one_thread = one_thread start c.history p.legal;
+      one_thread = is_answered LIVE_LIMIT c.history p.legal;
       known = inr f.known;
       done = f.done;
       read_fault = f.read_fault;
       write_fault = f.write_fault;
       truncated = f.truncated;
       too_long = f.too_long;
-      complete = completed c f (all_whole start c.history p.legal) f.known;
+      complete = completed c f (all_whole (start LIVE_LIMIT) c.history p.legal) f.known;
     }

@@ -17,13 +17,13 @@ use Rattle.serapi_ans.specs.declared.line.Line.{Line}
 use Rattle.serapi_ans.specs.declared.line.Line.TheVariants as line
 use Rattle.serapi_cmd.specs.Requests.{input_end}
 use Rattle.serapi_cmd.specs.declared.request.Request.{Request}
+use Rattle.doc_theory.specs.Answers.{Outcomes, whole}
+use Rattle.doc_theory.specs.Histories.{Event, requests, outcomes}
+use Rattle.doc_core.specs.Answers.{answers}
+use Rattle.doc_core.specs.Histories.{Legal, render}
+use Rattle.doc_core.specs.declared.document.TheConstants.{LIVE_LIMIT}
 use Rattle.session_run.specs.Items.{requests_in, has_quit}
-use Rattle.session_run.specs.Answers.{answers}
-use Rattle.session_run.specs.Histories.{Legal, is_closed, render, requests, outcomes}
-use Rattle.session_run.specs.declared.cut.Cut.{Cut}
-use Rattle.session_run.specs.declared.cut.Cut.TheVariants.{Whole}
-use Rattle.session_run.specs.declared.history.Entry.{Entry}
-use Rattle.session_run.specs.declared.history.Entry.TheVariants.{Command, Close}
+use Rattle.session_run.specs.Closing.{is_closed, rendered}
 use Rattle.session_run.specs.declared.status.TheConstants.{DONE, BAD_WORDS, READ_FAULT, WRITE_FAULT, NO_MEMORY, TRUNCATED, TOO_LONG}
 use Rattle.session_run.specs.declared.serve.TheConstants.{INPUT_LIMIT}
 
@@ -43,7 +43,7 @@ pub record Call : Type 0 where
   pub status : ℕ
   pub taken : ℕ
   pub at_end : Bool
-  pub history : List Entry
+  pub history : List Event
 
 -- the requests in B, the first bytes of those that were left
 abbrev pub requests_read : Call → List ℕ → List Request
@@ -61,7 +61,7 @@ IsOutside [] = ⊥
 IsOutside (word ∷ words) = Unit {0}
 
 -- WORDS. The status is 2 exactly where the words are outside the stated command. Then H is empty and nothing was taken
-pub record HasWords {A : Type 0} (words : List A) (status taken : ℕ) (h : List Entry) : Type 0 where
+pub record HasWords {A : Type 0} (words : List A) (status taken : ℕ) (h : List Event) : Type 0 where
   pub refused : IsOutside words → status ≡ BAD_WORDS
   pub only : status ≡ BAD_WORDS → IsOutside words
   pub empty : status ≡ BAD_WORDS → (h ≡ []) × (taken ≡ 0)
@@ -76,11 +76,12 @@ pub record IsUntouched (c : Call) : Type 0 where
   pub written : c.written_after ≡ c.written_before
   pub write_faults : c.write_faults_after ≡ c.write_faults_before
 
--- LEGAL. H is legal and its last entry is Close. The one exception is an H with no entry: then nothing was read or written, and the
--- status is 2 for the words or 5 for want of memory before the document was made
-abbrev pub HasLegalHistory : Call → List Entry → Type 0
+-- LEGAL. H is a legal history of a document in which at most 1,048,576 sentences live, and its last event is the end. The one exception is
+-- an H with no event: then nothing was read or written, and the status is 2 for the words or 5 for want of memory before the document was
+-- made
+abbrev pub HasLegalHistory : Call → List Event → Type 0
 HasLegalHistory c [] = IsUntouched c × ((c.status ≡ BAD_WORDS) ⊎ (c.status ≡ NO_MEMORY))
-HasLegalHistory c (e ∷ es) = Legal (e ∷ es) × (is_closed (e ∷ es) ≡ true)
+HasLegalHistory c (e ∷ es) = Legal LIVE_LIMIT (e ∷ es) × (is_closed (e ∷ es) ≡ true)
 
 -- ---- read
 
@@ -111,14 +112,15 @@ pub record HasRead (c : Call) : Type 0 where
 -- WRITTEN. W is what H renders where the sink's count didn't rise, else a prefix of it; with status 0 it is all of it
 pub record HasWritten (c : Call) : Type 0 where
   pub whole : Stood c.write_faults_before c.write_faults_after ⊎ (c.status ≡ DONE)
-      → Appends c.written_before c.written_after (render c.history)
-  pub prefix : AppendsPrefix c.written_before c.written_after (render c.history)
+      → Appends c.written_before c.written_after (rendered c.history)
+  pub prefix : AppendsPrefix c.written_before c.written_after (rendered c.history)
 
 -- ---- one thread
 
--- ONE THREAD. What H renders is what the one-thread document answers to the requests of H, each going as far as its outcome says
-abbrev pub IsOneThread : List Entry → Type 0
-IsOneThread h = render h ≡ answers (requests h) (outcomes h)
+-- ONE THREAD. The lines of H are what the one-thread document, in which at most 1,048,576 sentences live, answers to the requests of H,
+-- each going as far as its outcome says
+abbrev pub IsOneThread : List Event → Type 0
+IsOneThread h = render h ≡ answers LIVE_LIMIT (requests h) (outcomes h)
 
 -- ---- the causes of the statuses
 
@@ -188,9 +190,9 @@ IsStatus status = (status ≡ DONE) ⊎ ((status ≡ READ_FAULT)
 -- ---- completeness
 
 -- no request was cut
-abbrev pub AllWhole : List Cut → Type 0
+abbrev pub AllWhole : List Outcomes → Type 0
 AllWhole [] = Unit {0}
-AllWhole (cut ∷ cuts) = (cut ≡ Whole) × AllWhole cuts
+AllWhole (o ∷ os) = (o.cut ≡ whole) × AllWhole os
 
 -- whether a line says that memory was wanting
 abbrev pub is_short : Line → Bool
@@ -202,16 +204,10 @@ abbrev pub has_short : List Line → Bool
 has_short [] = false
 has_short (l ∷ ls) = is_short l || has_short ls
 
--- one of the entries has such a line
-abbrev pub any_short : List Entry → Bool
-any_short [] = false
-any_short (Command n q cut ls ∷ es) = has_short ls || any_short es
-any_short (Close ∷ es) = any_short es
-
 -- each request in B up to Quit or the end is answered, whole where no line says OutOfMemory, and the status is 0, 6 or 7 as B says
 pub record IsComplete (c : Call) : Type 0 where
   pub all : IfSome c.left_before (λ all. requests c.history ≡ requests_read c all)
-  pub whole : any_short c.history ≡ false → AllWhole (outcomes c.history)
+  pub whole : has_short (render c.history) ≡ false → AllWhole (outcomes c.history)
   pub which : ((c.status ≡ DONE) × (IsQuit c ⊎ (c.at_end ≡ true)))
       ⊎ (((c.status ≡ TRUNCATED) × (c.at_end ≡ true)) ⊎ ((c.status ≡ TOO_LONG) × IsTooLong c))
 

@@ -1,15 +1,15 @@
 //! Serving a source and a sink on one thread.
 ghost use Rattle.std.specs.Prelude.{◌≡◌, [], false};
 ghost use Rattle.std.specs.Io.KnownBytes.{Appends};
-ghost use Rattle.session_run.specs.Histories.{render};
+ghost use Rattle.session_run.specs.Closing.{rendered};
 ghost use Rattle.session_run.specs.Headline.{IsAnswered, IsSession, IsStatus};
 
 use crate::ending::{Ended, conclude};
-use crate::history::History;
 use crate::live::Live;
 use crate::party::{Answered, Party};
 use crate::serve::serve_party;
 use crate::status::NO_MEMORY;
+use hist_core::History;
 use serapi_cmd::Request;
 use std::alloc::Global;
 use stm_base::{Sink, Source};
@@ -17,18 +17,19 @@ use stm_base::{Sink, Source};
 impl<K: Sink> Party for Live<K> {
     ghost use Rattle.std.specs.Prelude.{◌≡◌, true, false};
     ghost use Rattle.std.proofs.Common.{refl, ◌∙◌};
-    ghost use Rattle.session_run.specs.Histories.{is_closed, requests};
+    ghost use Rattle.doc_theory.specs.Histories.{requests};
+    ghost use Rattle.session_run.specs.Closing.{is_closed};
     ghost use Rattle.session_run.specs.Kept.{Continues};
 
-    ghost asked = { λ l. requests l.entries };
+    ghost asked = { λ l. requests l.history };
 
     ghost left = { λ l. false };
 
-    ghost ready = { λ l. is_closed l.entries ≡ false };
+    ghost ready = { λ l. is_closed l.history ≡ false };
 
     ghost clean = { λ l. l.output.failed ≡ false };
 
-    ghost ended = { λ l. is_closed l.entries ≡ true };
+    ghost ended = { λ l. is_closed l.history ≡ true };
 
     ghost goes_on = { λ k l. Continues k.output l.output };
 
@@ -73,7 +74,7 @@ pub fn serve_alone<S: Source, K: Sink>(alloc: Global, source: &mut S, sink: K) -
 
     // On one thread every status but 4 and 5 promises that no write failed and all was written.
     ensures whole { IsAnswered result.status → (K.faults result.sink ≡ K.faults sink)
-        × Appends (K.written sink) (K.written result.sink) (render result.history.items) }
+        × Appends (K.written sink) (K.written result.sink) (rendered result.history.items) }
 
     // Where the history is empty, the source and the sink are the very ones that were handed in.
     ensures untouched_source { result.history.items ≡ [] → source.new ≡ source.old }

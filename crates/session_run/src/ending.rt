@@ -1,16 +1,17 @@
 //! How a run ends.
 ghost use Rattle.std.specs.Prelude.{◌≡◌, true, false};
 ghost use Rattle.std.specs.Io.KnownBytes.{Appends};
-ghost use Rattle.session_run.specs.Histories.{is_closed, render, requests};
+ghost use Rattle.doc_theory.specs.Histories.{requests};
+ghost use Rattle.session_run.specs.Closing.{is_closed, rendered};
 ghost use Rattle.session_run.specs.Headline.{IsSession, IsStatus};
 ghost use Rattle.session_run.specs.Serving.{Between, Served};
 ghost use Rattle.session_run.specs.Statuses.{status_of as status_after};
 
-use crate::history::History;
 use crate::live::Live;
 use crate::party::Loss;
 use crate::serve::{Service, Stop};
 use crate::status::{DONE, NO_MEMORY, READ_FAULT, TOO_LONG, TRUNCATED, WRITE_FAULT};
+use hist_core::History;
 use sexp_core::InputEnd;
 use stm_base::Sink;
 
@@ -31,13 +32,13 @@ pub struct Ended<K> {
 
 /// Ends a run whose session is closed: it looks once more for a write fault, and takes the session apart.
 pub(crate) fn conclude<K: Sink>(service: Service, live: Live<K>) -> Ended<K>
-    requires closed { is_closed live.entries ≡ true }
+    requires closed { is_closed live.history ≡ true }
     ensures status { result.status ≡ status_after service.stop live.output.failed }
     ensures known { IsStatus result.status }
     ensures closed { is_closed result.history.items ≡ true }
     ensures clean { live.output.failed ≡ false → (K.faults result.sink ≡ live.output.first_faults)
-        × Appends live.output.first_written (K.written result.sink) (render result.history.items) }
-    ensures session { (source : Between) → Served source service (requests live.entries) false → IsSession (record {
+        × Appends live.output.first_written (K.written result.sink) (rendered result.history.items) }
+    ensures session { (source : Between) → Served source service (requests live.history) false → IsSession (record {
       left_before = source.left_before;
       left_after = source.left_after;
       read_faults_before = source.faults_before;

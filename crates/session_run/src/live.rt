@@ -1,30 +1,31 @@
 //! A session as it stands.
-ghost use Rattle.std.specs.Prelude.{◌≡◌, ◌<◌, [], ◌∷◌, ◌++◌, true, false, length, IfOk, IfErr, OnOk, OnErr, IsTrue};
-ghost use Rattle.std.specs.Option.{ForSome};
+ghost use Rattle.std.specs.Prelude.{◌≡◌, ◌<◌, ◌^◌, [], ◌∷◌, ◌++◌, true, false, length, IfOk, IfErr, OnOk, OnErr, IsTrue};
 ghost use Rattle.stm_base.specs.Counts.{Rose};
 ghost use Rattle.stm_base.specs.Output.{IsPut, begun, fresh};
+ghost use Rattle.serapi_ans.specs.Lines.{lines_text};
+ghost use Rattle.doc_theory.specs.Histories.{IsNumbered, requests};
+ghost use Rattle.doc_core.specs.Histories.{Legal, render};
+ghost use Rattle.doc_core.specs.Kept.{done_by};
+ghost use Rattle.session_run.specs.Closing.{is_closed};
 ghost use Rattle.session_run.specs.Items.{has_quit};
-ghost use Rattle.session_run.specs.Histories.{IsNumbered, Legal, is_closed, render, requests};
 ghost use Rattle.session_run.specs.Kept.{Continues};
-ghost use Rattle.session_run.specs.Plans.{listed};
 ghost use Rattle.session_run.specs.Serving.{Takes, Unless};
 
-use crate::document::Document;
-use crate::history::{Entry, History};
-use crate::lines::put_lines;
 use crate::party::{Answered, Loss};
-use crate::plan::{Planned, plan_request};
-use base_core::{Bytes, NoMemory};
+use base_core::{NoMemory, Steps};
+use doc_core::{Document, Done, LIVE_LIMIT};
+use hist_core::History;
 use serapi_cmd::Request;
 use std::alloc::Global;
-use std::marker::Model;
+use std::marker::{Brand, Model};
+use std::sync::ledger::{Blank, Ledger};
 use stm_base::{Out, Sink};
 
-/// A session: its document, what it did, and where its lines go. Contracts see its history and its `Out`; the
-/// history is legal, and what it renders was put.
+/// A session: its document with the history of what it did, how many requests it answered, and where its lines go.
+/// Contracts see its history and its `Out`; what the history renders was put.
 pub struct Live<K: Sink> {
     document: Document,
-    history: History,
+    count: u64,
     out: Out<K>,
 }
 
@@ -33,83 +34,86 @@ impl<K: Sink> Model for Live<K> {
 
     ghost Value = { Session };
 
-    ghost view = { λ l. record { entries = l.history.items; output = l.out } };
+    ghost view = { λ l. record { history = l.document.history; output = l.out } };
 
-    ghost invariant = { λ l. IsKept l.history.items l.history.spare l.document.items l.out };
+    ghost invariant = { λ l. IsKept l.document l.count l.out };
 }
 
 impl<K: Sink> Live<K> {
     /// A session that did nothing. Where memory is wanting, the sink comes back.
     pub fn new(alloc: Global, sink: K) -> Result<Live<K>, K>
-        ensures entries { IfOk result (λ l. l.entries ≡ []) }
+        ensures history { IfOk result (λ l. l.history ≡ []) }
         ensures output { IfOk result (λ l. l.output ≡ begun (K.written sink) (K.faults sink)) }
         ensures err { IfErr result (λ k. k ≡ sink) }
     {
-        let mut history = History::new(alloc);
-        if history.reserve(1).is_err() {
-            return Err(sink);
+        match Document::new(alloc, LIVE_LIMIT) {
+            Ok(document) => Ok(Live {
+                document,
+                count: 0,
+                out: Out::new(sink),
+            }),
+            Err(_) => Err(sink),
         }
-        Ok(Live {
-            document: Document::new(alloc),
-            history,
-            out: Out::new(sink),
-        })
     }
 
     /// How many requests were answered.
     pub fn count_requests(&self) -> u64
-        requires ready { is_closed self.now.entries ≡ false }
-        ensures { result ≡ length (requests self.now.entries) }
+        ensures { result ≡ length (requests self.now.history) }
     {
-        self.history.len() as u64
+        self.count
     }
 
     /// Answers a request as far as memory lasts, and then looks for a write fault.
     pub fn answer_request(&mut self, alloc: Global, request: Request) -> Answered
-        requires ready { is_closed self.old.entries ≡ false }
-        requires going { has_quit (requests self.old.entries) ≡ false }
-        requires numbered { IsNumbered (length (requests self.old.entries)) request }
-        ensures takes { Takes result (requests self.old.entries) request (requests self.new.entries) false }
+        requires ready { is_closed self.old.history ≡ false }
+        requires going { has_quit (requests self.old.history) ≡ false }
+        requires numbered { IsNumbered (length (requests self.old.history)) request }
+        ensures takes { Takes result (requests self.old.history) request (requests self.new.history) false }
         ensures clean { Unless result (self.new.output.failed ≡ false) }
-        ensures ready { is_closed self.new.entries ≡ false }
+        ensures ready { is_closed self.new.history ≡ false }
         ensures output { Continues self.old.output self.new.output }
     {
-        let quit = request.is_quit();
-        match self.command(alloc, request) {
+        match self.command::<Brand>(alloc, request, Blank::new(1)) {
             Err(_) => Answered::Lost(Loss::WantOfMemory),
-            Ok(_) => {
+            Ok(done) => {
                 if self.out.failed() {
                     return Answered::Lost(Loss::WriteFault);
                 }
-                if quit { Answered::Quit } else { Answered::More }
+                match done {
+                    Done::Quitting => Answered::Quit,
+                    Done::Answered => Answered::More,
+                }
             }
         }
     }
 
-    // Answers a request as far as memory lasts. What may be refused for want of memory is asked for before
-    // anything changes.
-    #[tactic(auto, using(crate::proofs::Grown::command_asks, crate::proofs::Grown::command_open))]
-    fn command(&mut self, alloc: Global, request: Request) -> Result<(), NoMemory>
-        requires ready { is_closed self.old.entries ≡ false }
-        requires going { has_quit (requests self.old.entries) ≡ false }
-        requires numbered { IsNumbered (length (requests self.old.entries)) request }
-        ensures ok { OnOk result (requests self.new.entries ≡ requests self.old.entries ++ request ∷ []) }
+    // Answers a request as far as memory lasts, with its steps counted on the ledger that the blank is for. Room for it in the
+    // history is asked for before anything changes.
+    fn command<L: Ledger>(
+        &mut self,
+        alloc: Global,
+        request: Request,
+        blank: Blank,
+    ) -> Result<Done, NoMemory>
+        requires name { blank.name ≡ L.name }
+        requires parts { blank.parts ≡ L.parts }
+        requires whole { 0 < L.parts }
+        requires ready { is_closed self.old.history ≡ false }
+        requires going { has_quit (requests self.old.history) ≡ false }
+        requires numbered { IsNumbered (length (requests self.old.history)) request }
+        ensures ok { OnOk result (requests self.new.history ≡ requests self.old.history ++ request ∷ []) }
+        ensures done { IfOk result (λ done. done ≡ done_by request) }
         ensures err { OnErr result (self.new ≡ self.old) }
-        ensures ready { is_closed self.new.entries ≡ false }
+        ensures ready { is_closed self.new.history ≡ false }
         ensures output { Continues self.old.output self.new.output }
     {
-        let number = self.history.len() as u64;
-        let Planned { cut, name, lines } = plan_request(alloc, &mut self.document, &request)?;
-        self.history.reserve(2)?;
-        put_lines(lines.as_slice(), &mut self.out);
-        store(&mut self.document, name);
-        self.history.push_reserved(Entry::Command {
-            number,
-            request,
-            cut,
-            lines,
-        });
-        Ok(())
+        let mut steps: Steps<L> = Steps::new(blank);
+        self.document.reserve()?;
+        let done = self
+            .document
+            .command(alloc, self.count, request, &mut self.out, &mut steps)?;
+        self.count += 1;
+        Ok(done)
     }
 
     /// Whether a write has failed.
@@ -123,39 +127,29 @@ impl<K: Sink> Live<K> {
     /// Ends the history, without memory.
     #[tactic(auto, using(crate::proofs::Grown::close_asks, crate::proofs::Grown::close_ends))]
     pub fn close(&mut self)
-        requires ready { is_closed self.old.entries ≡ false }
-        ensures asked { requests self.new.entries ≡ requests self.old.entries }
-        ensures closed { is_closed self.new.entries ≡ true }
+        requires ready { is_closed self.old.history ≡ false }
+        ensures asked { requests self.new.history ≡ requests self.old.history }
+        ensures closed { is_closed self.new.history ≡ true }
         ensures failed { self.new.output.failed ≡ self.old.output.failed }
         ensures output { Continues self.old.output self.new.output }
     {
-        self.history.push_reserved(Entry::Close);
+        self.document.close();
     }
 
     /// The parts of a session.
     pub fn into_parts(self) -> (K, History)
-        ensures entries { result.1.items ≡ self.entries }
-        ensures legal { Legal self.entries }
-        ensures put { IsPut (fresh self.output) (render self.entries) self.output }
+        ensures history { result.1.items ≡ self.history }
+        ensures legal { Legal LIVE_LIMIT self.history }
+        ensures put { IsPut (fresh self.output) (lines_text (render self.history)) self.output }
         ensures written { K.written result.0 ≡ self.output.written }
         ensures faults { K.faults result.0 ≡ self.output.faults }
         ensures cause { self.output.failed ≡ true → Rose self.output.first_faults self.output.faults }
     {
         let Live {
-            document: _,
-            history,
+            document,
+            count: _,
             out,
         } = self;
-        (out.into_sink(), history)
-    }
-}
-
-/// Adds the name, where there is one.
-fn store(document: &mut Document, name: Option<Bytes>)
-    requires { ForSome name (λ _. 0 < document.old.spare) }
-    ensures { document.new.items ≡ document.old.items ++ listed name }
-{
-    if let Some(name) = name {
-        document.push_reserved(name);
+        (out.into_sink(), document.into_history())
     }
 }

@@ -1,7 +1,7 @@
 //! Who answers requests.
 ghost use Rattle.std.specs.Prelude.{◌≡◌, Bool, false, length};
+ghost use Rattle.doc_theory.specs.Histories.{IsNumbered};
 ghost use Rattle.session_run.specs.Items.{Requests, has_quit};
-ghost use Rattle.session_run.specs.Histories.{IsNumbered};
 ghost use Rattle.session_run.specs.Serving.{Takes, Unless};
 
 use serapi_cmd::Request;

@@ -1,3 +1,1 @@
-pub mod Name
-pub mod Parameter
 pub mod Parsed

@@ -1,7 +1,7 @@
 use Rattle.std.proofs.Common.{◌≡◌, ℕ, List, Option, ap, ◌∙◌, subst}
 use Rattle.std.specs.Io.KnownBytes.{Appends}
 use Rattle.stm_base.specs.Output.{Output}
-use Rattle.session_run.specs.Histories.{render}
+use Rattle.session_run.specs.Closing.{rendered}
 use Rattle.session_run.specs.Headline.{Call, IsSession}
 use Rattle.session_run.specs.Serving.{between}
 use Rattle.session_run.proofs.Concluded.{answered-clean, closed-some}
@@ -43,7 +43,7 @@ returns-clause-whole g c =
     let service = c.serve_party-service in
     let written = goes.written ∙ ap (λ (o : Output). o.first_written) began in
     let faults = goes.faults ∙ ap (λ (o : Output). o.first_faults) began in
-    λ answered. subst (λ (p : Option (List ℕ) × ℕ). (K.faults end.sink ≡ p.1) × Appends p.0 (K.written end.sink) (render end.history.items))
+    λ answered. subst (λ (p : Option (List ℕ) × ℕ). (K.faults end.sink ≡ p.1) × Appends p.0 (K.written end.sink) (rendered end.history.items))
     (λ i. (written i, faults i))
     (c.conclude.ensures.clean (answered-clean service.result.stop service.new.party.output.failed end.status c.conclude.ensures.status
     answered service.ensures.clean))

@@ -1,11 +1,13 @@
 use Rattle.std.proofs.Common.{List, ℕ, Option, false, refl, sym, ap, ◌∙◌, subst}
 use Rattle.std.specs.Io.KnownBytes.{Appends}
 use Rattle.stm_base.specs.Output.{IsPut, fresh}
-use Rattle.session_run.specs.Histories.{Legal, is_closed, render, requests}
+use Rattle.doc_theory.specs.Histories.{Event, requests}
+use Rattle.doc_core.specs.Histories.{Legal}
+use Rattle.doc_core.specs.declared.document.TheConstants.{LIVE_LIMIT}
+use Rattle.session_run.specs.Closing.{is_closed, rendered}
 use Rattle.session_run.specs.Headline.{Call}
 use Rattle.session_run.specs.Serving.{Served}
 use Rattle.session_run.specs.Statuses.{status_of}
-use Rattle.session_run.specs.declared.history.Entry.{Entry}
 use Rattle.session_run.proofs.Concluded.{concludes, stop-known, whole-put}
 use Rattle.session_run.proofs.ending.conclude.Goals as goal
 
@@ -21,9 +23,9 @@ returns-clause-clean g c =
     let parts = c.into_parts-sink.ensures in
     λ e. (
       parts.faults ∙ parts.put.passed e,
-      subst (λ (p : Option (List ℕ) × List Entry). Appends o.first_written p.0 (render p.1))
-          (λ i. (sym parts.written i, sym parts.entries i))
-          (whole-put o c.args.live.entries parts.put e),
+      subst (λ (p : Option (List ℕ) × List Event). Appends o.first_written p.0 (rendered p.1))
+          (λ i. (sym parts.written i, sym parts.history i))
+          (whole-put o c.args.live.history parts.put e),
     )
 
 pub returns-clause-session : goal.returns-clause-session
@@ -33,7 +35,7 @@ returns-clause-session g c =
     let o = c.args.live.output in
     let parts = c.into_parts-sink.ensures in
     let end = c.into_parts-sink.result in
-    let same = sym parts.entries in
+    let same = sym parts.history in
     λ source served.
     let call : Call = record {
       left_before = source.left_before;
@@ -52,9 +54,9 @@ returns-clause-session g c =
     concludes call s.stop false o (subst (λ h. Served source s (requests h) false) same served)
     (c.status_of-status.ensures ∙ ap (status_of s.stop) c.failed.ensures.value)
     (record {
-      legal = subst Legal same parts.legal;
-      closed = ap is_closed parts.entries ∙ c.requires.closed;
-      put = subst (λ h. IsPut (fresh o) (render h) o) same parts.put;
+      legal = subst (Legal LIVE_LIMIT) same parts.legal;
+      closed = ap is_closed parts.history ∙ c.requires.closed;
+      put = subst (λ h. IsPut (fresh o) (rendered h) o) same parts.put;
       cause = parts.cause;
       first_written = refl;
       written = parts.written;
