@@ -86,9 +86,6 @@ one_try_more x used k h each j l = by (cases_lt j k)
     by (inl m) = each j m
     by (inr m) = let same : j ≡ k = omega (arith, l, m) in ap (λ j. is_among (numbered x j) used) same ∙ h
 
-pub no_try : (x : List ℕ) (used : List (List ℕ)) (j : ℕ) → j < 0 → is_among (numbered x j) used ≡ true
-no_try x used j h = absurd (omega (arith, h))
-
 -- what is picked is no open binder's name
 pub picked_new : (x : List ℕ) (s : Names) → is_among (bound_name (all_names s) s.taken x) s.bound ≡ false
 picked_new x s =
