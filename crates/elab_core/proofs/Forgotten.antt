@@ -131,7 +131,7 @@ atom_forgotten (declared (term m ps s b)) x n f g e = refl
 atom_forgotten (declared (formula m ps b)) x n f g e = atom n (sorts_of ps) x f g (e (sorts_of ps))
 
 -- a term and its sort, where the sort alone is asked for
-fitted : (s : List ℕ) (p : Span) (r : Result (Term × List ℕ) Fault) → and_then (sort_alone r) (fits s p)
+pub fitted : (s : List ℕ) (p : Span) (r : Result (Term × List ℕ) Fault) → and_then (sort_alone r) (fits s p)
     ≡ nothing (and_then r (of_sort s p))
 fitted s p (Ok t) = go (is_name t.1 s)
   where
@@ -204,7 +204,7 @@ denied (Ok a) (Ok b) p = made_of (equation_of p a b) (λ x. implies x falsity)
 denied (Ok a) (Err e) p = refl
 denied (Err e) t p = refl
 
-two_forgotten : (m n : Result (Unit {0}) Fault) (r t : Result Formula Fault) → m ≡ nothing r → n ≡ nothing t → (f : Formula → Formula
+pub two_forgotten : (m n : Result (Unit {0}) Fault) (r t : Result Formula Fault) → m ≡ nothing r → n ≡ nothing t → (f : Formula → Formula
     → Formula) → and_then m (λ _. n) ≡ nothing (and_then r (λ a. and_then t (λ b. Ok (f a b))))
 two_forgotten m n r t e k f = ap (λ z. and_then z (λ _. n)) e ∙ ap (λ z. and_then (nothing r) (λ _. z)) k ∙ made_of_two r t f
 

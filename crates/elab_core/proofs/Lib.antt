@@ -6,4 +6,7 @@ pub mod Building
 pub mod Within
 pub mod Whole
 pub mod Typed
+pub mod Bound
+pub mod Bodies
+pub mod Chained
 pub mod Sentences

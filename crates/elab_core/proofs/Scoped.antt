@@ -61,7 +61,8 @@ pub take_last : {X : Type 0} (xs : List X) (j : ℕ) (d : X) → 0 < j → j ≤
 take_last xs j d p h = let more : suc (j - 1) ≡ j = omega (arith, p) in subst (λ k. take k xs
     ≡ take (j - 1) xs ++ (get_or xs (j - 1) d ∷ [])) more (take-suc xs (j - 1) d (omega (arith, p, h)))
 
-pub binders_more : (c : List Local) (bs : List Parameter) (b : Parameter) → binders_onto c (bs ++ (b ∷ [])) ≡ binder_local b ∷ binders_onto c bs
+pub binders_more : (c : List Local) (bs : List Parameter) (b : Parameter) → binders_onto c (bs ++ (b ∷ [])) ≡ binder_local b ∷
+    binders_onto c bs
 binders_more c [] b = refl
 binders_more c (d ∷ bs) b = binders_more (binder_local d ∷ c) bs b
 
@@ -105,12 +106,6 @@ assumed_here E n m c v h = ap (λ q. past v (if q then assumed else known E c m)
 pub assumed_there : (E : List Declaration) (n m : List ℕ) (c : List Local) (v : ℕ) → is_name n m ≡ false
     → past v (known E (hypothesis n ∷ c) m) ≡ past v (known E c m)
 assumed_there E n m c v h = ap (λ q. past v (if q then assumed else known E c m)) h
-
-pub past_none : (k : Known) → past 0 k ≡ k
-past_none (bound i s) = ap (λ j. bound j s) (omega arith)
-past_none assumed = refl
-past_none (declared d) = refl
-past_none unknown = refl
 
 -- ---- the last binder
 

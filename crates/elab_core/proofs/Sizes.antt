@@ -55,4 +55,17 @@ pub height_Quant : (q : Bool) (gs : Vec RawGroup Global) (a : Box RawExpr Global
     → height_in (expression (made.Quant q gs a c)) ≡ height_in (expression a.value) + names_in (map group gs.items)
 height_Quant q gs a c = ap height_in (expression_Quant q gs a c)
 
-pub ruleset sizes = (nodes_True, nodes_False, nodes_App, nodes_Binary, nodes_Not, nodes_Quant, height_True, height_False, height_App, height_Binary, height_Not, height_Quant)
+pub ruleset sizes = (
+  nodes_True,
+  nodes_False,
+  nodes_App,
+  nodes_Binary,
+  nodes_Not,
+  nodes_Quant,
+  height_True,
+  height_False,
+  height_App,
+  height_Binary,
+  height_Not,
+  height_Quant,
+)

@@ -47,11 +47,4 @@ sort_given E c a x ys p zs e k = ap (λ l. and_then (term_head (known E c x.text
     (λ ss. arguments_fit E c (expressions (map expression l)) ss))) k ∙ sym (sort_App E c x ys p)
     ∙ ap (λ z. sort_of E c (expression z)) (sym e)
 
-pub fits_given : (E : List Declaration) (c : List Local) (a : RawExpr) (x : RawName) (ys : Vec RawExpr Global) (p : Span)
-    (zs : List RawExpr) → a ≡ made.App x ys p → zs ≡ ys.items →
-    and_then (formula_head (known E c x.text) (name x) (length zs)) (λ ss. arguments_fit E c (expressions (map expression zs)) ss)
-    ≡ fits_formula E c (expression a)
-fits_given E c a x ys p zs e k = ap (λ l. and_then (formula_head (known E c x.text) (name x) (length l)) (λ ss. arguments_fit E c
-    (expressions (map expression l)) ss)) k ∙ sym (fits_App E c x ys p) ∙ ap (λ z. fits_formula E c (expression z)) (sym e)
-
 pub ruleset checked = (constants, governed, sort_App, fits_App)

@@ -198,7 +198,7 @@ groups_whole E (g ∷ gs) c d e =
     ∙ groups_whole E gs (under_names p.0 g.names c) d p.2
 
 -- two formulas under a connective
-two_whole : (r t : Result Formula Fault) (x y : Formula) (f : Formula → Formula → Formula) (b : Formula) → ((d : Formula) → r ≡ Ok d → x
+pub two_whole : (r t : Result Formula Fault) (x y : Formula) (f : Formula → Formula → Formula) (b : Formula) → ((d : Formula) → r ≡ Ok d → x
     ≡ d) → ((d : Formula) → t ≡ Ok d → y ≡ d) → and_then r (λ u. and_then t (λ v. Ok (f u v))) ≡ Ok b → f x y ≡ b
 two_whole r t x y f b g h e =
     let p = steps r (λ u. and_then t (λ v. Ok (f u v))) b e in

@@ -106,3 +106,22 @@ within_part meaning size meaning' size' g k (TooLarge n m) (Ok y) h =
     subst (λ s. Passes s × (n ≡ min s.0 (2 ^ 32)) × (m ≡ min s.1 (2 ^ 32))) (sym (k y)) h
 within_part meaning size meaning' size' g k (TooLarge n m) (Err e) h = h
 within_part meaning size meaning' size' g k NoMemory r h = tt
+
+pub within_made : {X Y V W : Type 0} (meaning : X → Y) (size : Y → ℕ × ℕ) (meaning' : V → W) (size' : W → ℕ × ℕ) (g : Y → W)
+    → ((y : Y) → size' (g y) ≡ size y) → (r : Result Y Fault) (x : X) (v : V) → meaning' v ≡ g (meaning x)
+    → IsWithin meaning size (Ok x) r → IsWithin meaning' size' (Ok v) (and_then r (λ y. Ok (g y)))
+within_made meaning size meaning' size' g k r x v e h = (
+  ap (λ z. and_then z (λ y. Ok (g y))) h.0 ∙ ap (λ w. Ok w) (sym e),
+  λ p. h.1 (subst Passes (ap size' e ∙ k (meaning x)) p),
+)
+
+-- a fault of the first step is one of both
+pub faulty_first : {A B : Type 0} (e : ElabFault) (r : Result A Fault) (f : A → Result B Fault) → Faulty e r → Faulty e (and_then r f)
+faulty_first (UnknownName p) r f h = ap (λ z. and_then z f) h
+faulty_first (WrongKind p) r f h = ap (λ z. and_then z f) h
+faulty_first (WrongSort p) r f h = ap (λ z. and_then z f) h
+faulty_first (WrongArity p) r f h = ap (λ z. and_then z f) h
+faulty_first (AlreadyDeclared p) r f h = ap (λ z. and_then z f) h
+faulty_first NotOfForm r f h = h
+faulty_first (TooLarge n m) r f h = h
+faulty_first NoMemory r f h = tt

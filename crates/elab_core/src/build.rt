@@ -144,7 +144,7 @@ fn build_equation(
 
 /// One formula implies another.
 #[tactic(auto, using(term_core::proofs::Variants::meanings))]
-fn imp(alloc: Global, a: Formula, b: Formula) -> Result<Formula, NoMemory>
+pub fn imp(alloc: Global, a: Formula, b: Formula) -> Result<Formula, NoMemory>
     ensures { IfOk result (λ f. meaning f ≡ implies (meaning a) (meaning b)) }
 {
     let left = Arc::new(alloc, a)?;

@@ -71,7 +71,8 @@ fn check_application<'a>(
 ) -> Result<&'a Name, ElabFault>
     ensures { Gives (λ s. s.now) result (and_then
         (term_head (known (declarations env.now) (locals context.now binders.now) x.now.text) (name x.now) (length ys.now))
-        (λ h. headed h (λ ss. arguments_fit (declarations env.now) (locals context.now binders.now) (expressions (map expression ys.now)) ss))) }
+        (λ h. headed h (λ ss. arguments_fit (declarations env.now) (locals context.now binders.now)
+        (expressions (map expression ys.now)) ss))) }
 {
     let known = look_up(env, context, binders, &name_of(x)?)?;
     match head_of_term(known, x, ys.len())? {
@@ -93,8 +94,8 @@ fn check_arguments(
     binders: &[Parameter],
 ) -> Result<(), ElabFault>
     requires { length ys.now ≡ length (sorts_as sorts) }
-    ensures { Gives (λ x. x) result
-        (arguments_fit (declarations env.now) (locals context.now binders.now) (expressions (map expression ys.now)) (sorts_as sorts.entry)) }
+    ensures { Gives (λ x. x) result (arguments_fit (declarations env.now) (locals context.now binders.now)
+        (expressions (map expression ys.now)) (sorts_as sorts.entry)) }
 {
     for i in 0..ys.len() {
         let asked = sorts.at(i);

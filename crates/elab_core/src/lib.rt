@@ -8,14 +8,16 @@
 
 mod build;
 mod check;
+mod define;
 mod fault;
 mod scope;
 mod sentence;
+mod shape;
 mod size;
 #[cfg(test)]
 mod tests;
 mod typing;
 
 pub use fault::ElabFault;
-pub use sentence::statement;
+pub use sentence::{declaration, definition, statement};
 pub use typing::{formula, term};

@@ -1,9 +1,10 @@
 //! What names stand for.
-ghost use Rattle.std.specs.Prelude.{◌≡◌, ◌<◌, ◌^◌, length, get_or, [], IfOk};
+ghost use Rattle.std.specs.Prelude.{◌≡◌, ◌<◌, ◌^◌, length, get_or, map, [], IfOk};
 ghost use Rattle.vern_parse.specs.Meaning.{name};
-ghost use Rattle.env_core.specs.Meaning.{declarations, declaration};
+ghost use Rattle.env_core.specs.Meaning.{declarations, declaration, parameter};
 ghost use Rattle.elab_theory.specs.Locals.{known as known_in, declared, declared_or_not, locals_in};
 ghost use Rattle.elab_theory.specs.Expressions.{sort_at};
+ghost use Rattle.elab_theory.specs.Sentences.{locals_of};
 ghost use Rattle.env_theory.specs.Declarations.{find};
 ghost use Rattle.term_core.specs.Context.{slots};
 ghost use Rattle.elab_core.specs.Scopes.{known_as, locals, past, sorts_as};
@@ -141,6 +142,16 @@ pub fn expect_sort(known: Known<'_>, x: &RawName) -> Result<(), ElabFault>
         Known::Unknown => Err(ElabFault::UnknownName(x.span)),
         _ => Err(ElabFault::WrongKind(x.span)),
     }
+}
+
+/// The same under parameters alone.
+#[tactic(auto, using(crate::proofs::Bound::looking))]
+pub fn expect_sort_under(env: &Env, params: &[Parameter], x: &RawName) -> Result<(), ElabFault>
+    ensures { Gives (λ _. x.now.text) result
+        (sort_at (known_in (declarations env.now) (locals_of (map parameter params.now)) x.now.text) (name x.now)) }
+{
+    let sort = name_of(x)?;
+    expect_sort(look_up(env, &Context::Empty, params, &sort)?, x)
 }
 
 /// The head of a term: a variable with its sort, or a function with the sorts of its arguments and of its value.

@@ -1,4 +1,5 @@
 //! Formulas and terms of expressions.
+ghost use Rattle.std.specs.Prelude.{◌≡◌, IfOk};
 ghost use Rattle.vern_parse.specs.Meaning.{expression};
 ghost use Rattle.env_core.specs.Meaning.{declarations};
 ghost use Rattle.elab_theory.specs.Expressions.{formula_of, term_of};
@@ -40,7 +41,8 @@ pub(crate) fn formula_under(
     binders: &mut Params,
     raw: &RawExpr,
 ) -> Result<Formula, ElabFault>
-    ensures { Types result (formula_of (declarations env.now) (locals context.now binders.old.items) (expression raw.now)) }
+    ensures answer { Types result (formula_of (declarations env.now) (locals context.now binders.old.items) (expression raw.now)) }
+    ensures kept { IfOk result (λ _. binders.new.items ≡ binders.old.items) }
 {
     check_formula(raw, env, context, binders)?;
     let size = size_of_tree(raw);

@@ -10,7 +10,11 @@ pub returns : goal.returns
 returns c =
     let e = declarations c.args.env.now in
     let a = expression c.args.raw.now in
-    types_built e (locals c.args.context.now c.args.binders.now.items) a c.size_of_tree-size.result.nodes c.size_of_tree-size.result.height
-    c.in_ok-build_formula.field-0 c.in_ok-check_formula.ensures.fault
-    c.size_of_tree-size.ensures.nodes c.size_of_tree-size.ensures.height (λ w. let k = c.passes.ensures.1 w in cc)
-    (c.in_ok-build_formula.ensures.value ∙ ap (λ bs. formula_built e (locals c.args.context.now bs) a) c.in_ok-check_formula.ensures.kept)
+    record {
+      answer = types_built e (locals c.args.context.now c.args.binders.now.items) a c.size_of_tree-size.result.nodes
+          c.size_of_tree-size.result.height c.in_ok-build_formula.field-0 c.in_ok-check_formula.ensures.fault
+          c.size_of_tree-size.ensures.nodes c.size_of_tree-size.ensures.height (λ w. let k = c.passes.ensures.1 w in cc)
+          (c.in_ok-build_formula.ensures.value
+          ∙ ap (λ bs. formula_built e (locals c.args.context.now bs) a) c.in_ok-check_formula.ensures.kept);
+      kept = c.in_ok-build_formula.ensures.kept ∙ c.in_ok-check_formula.ensures.kept;
+    }
