@@ -40,10 +40,6 @@ pub ruleset looking = (slots_Empty, binders_alone)
 
 -- ---- one parameter more
 
-pub map_more : {X Y : Type 0} (f : X → Y) (xs : List X) (x : X) → map f (xs ++ (x ∷ [])) ≡ map f xs ++ (f x ∷ [])
-map_more f [] x = refl
-map_more f (y ∷ ys) x = ap (λ l. f y ∷ l) (map_more f ys x)
-
 names_more : (ps : List Parameter) (n s : List ℕ) → names_of (with_parameter ps n s) ≡ names_of ps ++ (n ∷ [])
 names_more [] n s = refl
 names_more (p ∷ ps) n s = ap (λ l. p.name ∷ l) (names_more ps n s)

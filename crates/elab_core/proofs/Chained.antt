@@ -2,7 +2,6 @@
 use Rattle.std.proofs.Common.{
   ◌≡◌,
   ℕ,
-  zero,
   ◌+◌,
   ◌<◌,
   ◌^◌,
@@ -15,7 +14,6 @@ use Rattle.std.proofs.Common.{
   [],
   ◌∷◌,
   ◌++◌,
-  length,
   map,
   Result,
   Ok,
@@ -40,7 +38,7 @@ use Rattle.base_core.specs.Answers.{and_then}
 use Rattle.elab_theory.specs.Faults.{Fault, wrong_kind}
 use Rattle.elab_theory.specs.Locals.{known}
 use Rattle.elab_theory.specs.Expressions.{sort_at, formula_of}
-use Rattle.elab_theory.specs.Sentences.{Last, a_predicate, a_function, a_formula, sort_or_not, sort_part, sorts_before, chain_of, shape_by}
+use Rattle.elab_theory.specs.Sentences.{Last, a_predicate, a_function, a_formula, sort_part, sorts_before, chain_of, shape_by}
 use Rattle.elab_theory.specs.Sizes.{nodes_in, height_in}
 use Rattle.elab_theory.proofs.Results.{ok_is, never, steps}
 use Rattle.elab_theory.proofs.Sized.{formula_of_nodes, formula_of_height}
@@ -52,16 +50,6 @@ use Rattle.env_core.specs.declared.declaration.Decl.TheVariants.{Fun, Pred, Stat
 use Rattle.env_core.specs.Meaning.{declaration}
 use Rattle.std.specs.Global.{Vec}
 use Rattle.elab_core.specs.declared.fault.ElabFault.{ElabFault}
-use Rattle.elab_core.specs.declared.fault.ElabFault.TheVariants.{
-  UnknownName,
-  WrongKind,
-  WrongSort,
-  WrongArity,
-  AlreadyDeclared,
-  NotOfForm,
-  TooLarge,
-  NoMemory,
-}
 use Rattle.elab_core.specs.Faults.{Faulty}
 use Rattle.elab_core.specs.Answers.{Types, Declares, formula_size, declared_size}
 use Rattle.elab_core.specs.Chains.{sorts_added, fits_chain, chain_nodes, chain_height, chain_built}
@@ -82,17 +70,6 @@ part_applied E x [] p h = absurd (h refl)
 part_applied E x (y ∷ ys) p h = refl
 
 pub ruleset parts = (part_bare, part_applied, slots_Empty)
-
--- what is no sort makes the chain a formula
-pub no_sort : (e : ElabFault) (r : Result (List ℕ) Fault) → (e ≡ NoMemory → ⊥) → Faulty e r → a_formula ≡ sort_or_not r
-no_sort (UnknownName p) r k h = ap sort_or_not (sym h)
-no_sort (WrongKind p) r k h = ap sort_or_not (sym h)
-no_sort (WrongSort p) r k h = ap sort_or_not (sym h)
-no_sort (WrongArity p) r k h = ap sort_or_not (sym h)
-no_sort (AlreadyDeclared p) r k h = ap sort_or_not (sym h)
-no_sort NotOfForm r k h = absurd h
-no_sort (TooLarge n m) r k h = absurd h
-no_sort NoMemory r k h = absurd (k refl)
 
 pub ruleset shapes = (shape_Set, shape_Prop, shape_Arrow, shape_Plain, slots_Empty, meaning_True)
 
