@@ -4,7 +4,6 @@ ghost use Rattle.std.specs.Prelude.{
   ℕ,
   suc,
   ◌-◌,
-  ◌<◌,
   ◌≤◌,
   ◌+◌,
   List,
@@ -13,7 +12,6 @@ ghost use Rattle.std.specs.Prelude.{
   ◌++◌,
   take,
   length,
-  slice_index,
   Some,
   None,
   IfOk,
@@ -104,15 +102,6 @@ impl Ending {
             }
             None => other,
         }
-    }
-
-    /// The entry inside with a number.
-    pub fn at(&self, number: usize) -> u64
-        requires block { IsOpen self.now }
-        requires within { number < length (body_of self.now) }
-        ensures { result ≡ slice_index (body_of self.now) number }
-    {
-        self.inside[number]
     }
 
     /// One entry more inside of the open block, which has a number; with `Err` all is as before.

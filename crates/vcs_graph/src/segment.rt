@@ -3,7 +3,6 @@ ghost use Rattle.std.specs.Prelude.{
   ◌≡◌,
   ℕ,
   suc,
-  ◌<◌,
   ◌≤◌,
   ◌-◌,
   ◌^◌,
@@ -15,7 +14,6 @@ ghost use Rattle.std.specs.Prelude.{
   take,
   drop,
   length,
-  slice_index,
   Some,
   None,
   IfOk,
@@ -156,15 +154,6 @@ impl Segment {
             Some(closer) => closer.id,
             None => self.first,
         }
-    }
-
-    /// The entry inside with a number.
-    pub fn at(&self, number: usize) -> u64
-        requires block { IsBlock self.now }
-        requires within { number < length (inside_of self.now) }
-        ensures { result ≡ slice_index (inside_of self.now) number }
-    {
-        self.inside[number]
     }
 
     /// One entry more inside of a block, which is the item with a number; with `Err` all is as before.
