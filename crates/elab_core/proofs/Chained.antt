@@ -50,6 +50,7 @@ use Rattle.env_core.specs.declared.declaration.Decl.TheVariants.{Fun, Pred, Stat
 use Rattle.env_core.specs.Meaning.{declaration}
 use Rattle.std.specs.Global.{Vec}
 use Rattle.elab_core.specs.declared.fault.ElabFault.{ElabFault}
+use Rattle.elab_core.specs.declared.fault.ElabFault.TheVariants.{TooLarge}
 use Rattle.elab_core.specs.Faults.{Faulty}
 use Rattle.elab_core.specs.Answers.{Types, Declares, formula_size, declared_size}
 use Rattle.elab_core.specs.Chains.{sorts_added, fits_chain, chain_nodes, chain_height, chain_built}

@@ -1,7 +1,8 @@
 //! Whole sessions over memory, with what they write typed from docs/PROTOCOL.md.
 ghost use Rattle.std.specs.Prelude.{◌≡◌, ◌⊎◌, ◌++◌, take};
+ghost use Rattle.doc_theory.specs.Histories.{requests};
+ghost use Rattle.session_run.specs.Closing.{rendered};
 ghost use Rattle.session_run.specs.Items.{requests_in};
-ghost use Rattle.session_run.specs.Histories.{render, requests};
 
 use crate::top::sertop_main;
 use session_run::{DONE, Ended, READ_FAULT, TRUNCATED, WRITE_FAULT, serve_alone};
@@ -19,7 +20,7 @@ fn run_sure(alloc: Global, bytes: &[u8]) -> u8
 
 /// Over memory the clauses tell the bytes.
 fn run_memory(alloc: Global, source: &mut MemSource, sink: MemSink) -> Ended<MemSink>
-    ensures written { result.status ≡ 0 → result.sink.written ≡ sink.written ++ render result.history.items }
+    ensures written { result.status ≡ 0 → result.sink.written ≡ sink.written ++ rendered result.history.items }
     ensures read { result.status ≡ 0 → requests result.history.items ≡ requests_in (take result.taken source.old.left) result.at_end }
 {
     serve_alone(alloc, source, sink)
