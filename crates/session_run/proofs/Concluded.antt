@@ -29,7 +29,7 @@ use Rattle.doc_theory.specs.Histories.{
 }
 use Rattle.doc_core.specs.Answers.{MayBe, answer, last_lines, perform}
 use Rattle.doc_core.specs.Histories.{Standing, start, step, Legal, LegalFrom, render}
-use Rattle.doc_core.specs.declared.document.TheConstants.{LIVE_LIMIT}
+use Rattle.session_run.specs.Numbers.{LIVE_LIMIT}
 use Rattle.doc_core.proofs.Grown.{is_answered}
 use Rattle.session_run.specs.Closing.{is_closed, rendered}
 use Rattle.session_run.specs.Items.{has_quit}
@@ -44,8 +44,8 @@ use Rattle.session_run.proofs.Progress.{or-left, or-right}
 use Rattle.session_run.specs.declared.party.Loss.TheVariants.{WriteFault, WantOfMemory}
 use Rattle.session_run.specs.declared.serve.Stop.{Stop}
 use Rattle.session_run.specs.declared.serve.Stop.TheVariants.{Quit, End, Fault, Limit, Lost}
-use Rattle.session_run.specs.declared.status.TheConstants.{DONE, READ_FAULT, WRITE_FAULT, NO_MEMORY, TRUNCATED, TOO_LONG}
-use Rattle.session_run.specs.declared.serve.TheConstants.{INPUT_LIMIT}
+use Rattle.session_run.specs.Numbers.{DONE, READ_FAULT, WRITE_FAULT, NO_MEMORY, TRUNCATED, TOO_LONG}
+use Rattle.session_run.specs.Numbers.{INPUT_LIMIT}
 
 -- ---- what a status says of its call
 

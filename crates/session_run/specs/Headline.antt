@@ -21,11 +21,11 @@ use Rattle.doc_theory.specs.Answers.{Outcomes, whole}
 use Rattle.doc_theory.specs.Histories.{Event, requests, outcomes}
 use Rattle.doc_core.specs.Answers.{answers}
 use Rattle.doc_core.specs.Histories.{Legal, render}
-use Rattle.doc_core.specs.declared.document.TheConstants.{LIVE_LIMIT}
+use Rattle.session_run.specs.Numbers.{LIVE_LIMIT}
 use Rattle.session_run.specs.Items.{requests_in, has_quit}
 use Rattle.session_run.specs.Closing.{is_closed, rendered}
-use Rattle.session_run.specs.declared.status.TheConstants.{DONE, BAD_WORDS, READ_FAULT, WRITE_FAULT, NO_MEMORY, TRUNCATED, TOO_LONG}
-use Rattle.session_run.specs.declared.serve.TheConstants.{INPUT_LIMIT}
+use Rattle.session_run.specs.Numbers.{DONE, BAD_WORDS, READ_FAULT, WRITE_FAULT, NO_MEMORY, TRUNCATED, TOO_LONG}
+use Rattle.session_run.specs.Numbers.{INPUT_LIMIT}
 
 -- ---- the call
 

@@ -3,7 +3,7 @@ use Rattle.std.specs.Prelude.{◌≡◌, ℕ, List, length}
 use Rattle.stm_base.specs.Output.{Output, IsPut, fresh}
 use Rattle.doc_theory.specs.Histories.{Event, requests}
 use Rattle.doc_core.specs.Kept.{Held, at}
-use Rattle.doc_core.specs.declared.document.TheConstants.{LIVE_LIMIT}
+use Rattle.session_run.specs.Numbers.{LIVE_LIMIT}
 use Rattle.session_run.specs.Closing.{is_closed, rendered}
 
 -- a session's history and its Out

@@ -16,7 +16,7 @@ use Rattle.session_run.specs.declared.party.Answered.TheVariants.{More, Quit, Lo
 use Rattle.session_run.specs.declared.serve.Service.{Service}
 use Rattle.session_run.specs.declared.serve.Stop.{Stop}
 use Rattle.session_run.specs.declared.serve.Stop.TheVariants as stop
-use Rattle.session_run.specs.declared.serve.TheConstants.{INPUT_LIMIT}
+use Rattle.session_run.specs.Numbers.{INPUT_LIMIT}
 
 -- ---- what was answered, and what is unread
 

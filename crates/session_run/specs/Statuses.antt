@@ -4,7 +4,7 @@ use Rattle.sexp_theory.specs.declared.input.InputEnd.TheVariants.{Clean, Truncat
 use Rattle.session_run.specs.declared.party.Loss.TheVariants.{WriteFault, WantOfMemory}
 use Rattle.session_run.specs.declared.serve.Stop.{Stop}
 use Rattle.session_run.specs.declared.serve.Stop.TheVariants.{Quit, End, Fault, Limit, Lost}
-use Rattle.session_run.specs.declared.status.TheConstants.{DONE, READ_FAULT, WRITE_FAULT, NO_MEMORY, TRUNCATED, TOO_LONG}
+use Rattle.session_run.specs.Numbers.{DONE, READ_FAULT, WRITE_FAULT, NO_MEMORY, TRUNCATED, TOO_LONG}
 
 -- the status of a run that stopped so, where a write has failed or not
 abbrev pub status_of : Stop → Bool → ℕ

@@ -9,6 +9,7 @@ ghost use Rattle.doc_core.specs.Kept.{done_by};
 ghost use Rattle.session_run.specs.Closing.{is_closed};
 ghost use Rattle.session_run.specs.Items.{has_quit};
 ghost use Rattle.session_run.specs.Kept.{Continues};
+ghost use Rattle.session_run.specs.Numbers.{LIVE_LIMIT as live_limit};
 ghost use Rattle.session_run.specs.Serving.{Takes, Unless};
 
 use crate::party::{Answered, Loss};
@@ -139,7 +140,7 @@ impl<K: Sink> Live<K> {
     /// The parts of a session.
     pub fn into_parts(self) -> (K, History)
         ensures history { result.1.items ≡ self.history }
-        ensures legal { Legal LIVE_LIMIT self.history }
+        ensures legal { Legal live_limit self.history }
         ensures put { IsPut (fresh self.output) (lines_text (render self.history)) self.output }
         ensures written { K.written result.0 ≡ self.output.written }
         ensures faults { K.faults result.0 ≡ self.output.faults }

@@ -3,7 +3,7 @@ use Rattle.std.specs.Io.KnownBytes.{Appends}
 use Rattle.stm_base.specs.Output.{IsPut, fresh}
 use Rattle.doc_theory.specs.Histories.{Event, requests}
 use Rattle.doc_core.specs.Histories.{Legal}
-use Rattle.doc_core.specs.declared.document.TheConstants.{LIVE_LIMIT}
+use Rattle.session_run.specs.Numbers.{LIVE_LIMIT}
 use Rattle.session_run.specs.Closing.{is_closed, rendered}
 use Rattle.session_run.specs.Headline.{Call}
 use Rattle.session_run.specs.Serving.{Served}

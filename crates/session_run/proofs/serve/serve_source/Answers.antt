@@ -4,7 +4,7 @@ use Rattle.sexp_theory.specs.Items.{fed}
 use Rattle.session_run.specs.Serving.{IsIdle, IsReading, Served, UnlessLost, between, midway}
 use Rattle.session_run.specs.declared.serve.Service.{Service}
 use Rattle.session_run.specs.declared.serve.Stop.{Stop}
-use Rattle.session_run.specs.declared.serve.TheConstants.{INPUT_LIMIT}
+use Rattle.session_run.specs.Numbers.{INPUT_LIMIT}
 use Rattle.session_run.proofs.Progress.{HasTaken, IsPaused, reading-fed, reading-kept, reading-none, reading-went, served-fault}
 use Rattle.session_run.proofs.Progress.{served-limit, served-quit, served-lost, served-end}
 use Rattle.session_run.proofs.serve.serve_source.Goals.{in-Quit, in-Lost}

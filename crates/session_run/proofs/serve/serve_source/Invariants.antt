@@ -1,7 +1,7 @@
 use Rattle.std.proofs.Common.{◌≡◌, ◌≤◌, ◌-◌, false}
 use Rattle.session_run.specs.Items.{has_quit}
 use Rattle.session_run.specs.Serving.{IsIdle, IsReading, midway}
-use Rattle.session_run.specs.declared.serve.TheConstants.{INPUT_LIMIT}
+use Rattle.session_run.specs.Numbers.{INPUT_LIMIT}
 use Rattle.session_run.proofs.serve.serve_source.Given as goal
 
 abbrev pub decreases-pieces : goal.decreases-pieces
