@@ -1,0 +1,174 @@
+-- What was typed is declared unless it is too large.
+use Rattle.std.proofs.Common.{◌≡◌, ℕ, ◌<◌, ◌^◌, ◌⊎◌, inl, inr, min, List, [], ◌∷◌, map, Option, Some, None, Result, Ok, Err, IfOk}
+use Rattle.std.proofs.Common.{refl, sym, ap, subst, ◌∙◌, arith}
+use Rattle.vern_grammar.specs.Trees.{Name, Group, Expression, Shape}
+use Rattle.base_core.specs.Answers.{Answers, IsRefusal, and_then}
+use Rattle.env_theory.specs.Declarations.{Declaration, sort, function, predicate, stated, term, formula}
+use Rattle.env_theory.specs.Typing.{Declares, Environment}
+use Rattle.env_core.specs.declared.declaration.Decl.{Decl}
+use Rattle.env_core.specs.Meaning.{declaration}
+use Rattle.elab_theory.specs.Faults.{Fault as TypingFault}
+use Rattle.elab_theory.specs.Sentences.{declaration_of, definition_of}
+use Rattle.elab_theory.proofs.Admitted.{declaration_admitted, definition_admitted}
+use Rattle.elab_core.specs.declared.fault.ElabFault.{ElabFault}
+use Rattle.elab_core.specs.declared.fault.ElabFault.TheVariants.{
+  UnknownName,
+  WrongKind,
+  WrongSort,
+  WrongArity,
+  AlreadyDeclared,
+  NotOfForm,
+  TooLarge,
+  NoMemory,
+}
+use Rattle.elab_core.specs.Answers.{Passes, declared_size}
+use Rattle.elab_core.specs.Answers.{Declares as Types}
+use Rattle.tactic_theory.specs.Faults.{too_large}
+use Rattle.tactic_theory.specs.States.{StepFault, row_fault}
+use Rattle.script_theory.specs.Sizes.{told, measured, large_declaration}
+use Rattle.script_theory.specs.Sentences.{sized}
+use Rattle.script_theory.specs.Sentences as check
+use Rattle.vern_parse.specs.declared.raw.RawName.{RawName}
+use Rattle.vern_parse.specs.Meaning.{name}
+use Rattle.vern_parse.specs.Sentences.{maybe_name}
+use Rattle.step_core.specs.declared.verdict.Fault.TheVariants as fault
+use Rattle.step_core.specs.declared.declare.Refusal.{Refusal}
+use Rattle.step_core.specs.declared.declare.Refusal.TheVariants as refusal
+use Rattle.step_core.specs.Standing.{IsNew, normal_excess, refused, within}
+use Rattle.step_core.proofs.Measured.{measured_past, measured_within}
+
+-- ---- sizes
+
+no_size : Passes (0, 0) → ⊥
+no_size (inl h) = omega (arith, h)
+no_size (inr h) = omega (arith, h)
+
+-- what passes a limit as it is written is told with its own numbers
+large_past : (E : List Declaration) (d : Declaration) → Passes (declared_size d)
+    → large_declaration E d ≡ Some (told (declared_size d).0, told (declared_size d).1)
+large_past E (sort n) h = absurd (no_size h)
+large_past E (function n ss s) h = absurd (no_size h)
+large_past E (predicate n ss) h = absurd (no_size h)
+large_past E (stated n a) h = measured_past _ _ _ h
+large_past E (term n ps s b) h = measured_past _ _ _ h
+large_past E (formula n ps b) h = measured_past _ _ _ h
+
+-- what doesn't is measured in its normal form
+large_within : (E : List Declaration) (d : Declaration) → (Passes (declared_size d) → ⊥) → large_declaration E d ≡ normal_excess E d
+large_within E (sort n) h = refl
+large_within E (function n ss s) h = refl
+large_within E (predicate n ss) h = refl
+large_within E (stated n a) h = measured_within _ _ _ h
+large_within E (term n ps s b) h = measured_within _ _ _ h
+large_within E (formula n ps b) h = measured_within _ _ _ h
+
+-- ---- faults of typing
+
+-- the fault that a fault of typing is
+abbrev pub told_as : ElabFault → Refusal
+told_as (UnknownName p) = refusal.Fault (fault.UnknownName p)
+told_as (WrongKind p) = refusal.Fault (fault.WrongKind p)
+told_as (WrongSort p) = refusal.Fault (fault.WrongSort p)
+told_as (WrongArity p) = refusal.Fault (fault.WrongArity p)
+told_as (AlreadyDeclared p) = refusal.Fault (fault.AlreadyDeclared p)
+told_as NotOfForm = refusal.Fault fault.NotOfForm
+told_as (TooLarge n h) = refusal.Fault (fault.TooLarge n h)
+told_as NoMemory = refusal.NoMemory
+
+too_large_as : (E : List Declaration) (w : Result Declaration TypingFault) (n h : ℕ) → Types (Err (TooLarge n h)) w
+    → within E w ≡ Err (row_fault (too_large n h))
+too_large_as E (Ok d) n h (p, e, f) = ap (λ o. sized o d) (large_past E d p)
+    ∙ ap (λ m. Err (row_fault (too_large m (told (declared_size d).1)))) (sym e) ∙ ap (λ k. Err (row_fault (too_large n k))) (sym f)
+too_large_as E (Err g) n h w = absurd w
+
+refused_as : (e : ElabFault) (E : List Declaration) (w : Result Declaration TypingFault) → Types (Err e) w
+    → IsRefusal (refused (told_as e)) (within E w)
+refused_as (UnknownName p) E w h = ap (within E) h
+refused_as (WrongKind p) E w h = ap (within E) h
+refused_as (WrongSort p) E w h = ap (within E) h
+refused_as (WrongArity p) E w h = ap (within E) h
+refused_as (AlreadyDeclared p) E w h = ap (within E) h
+refused_as NotOfForm E w h = absurd h
+refused_as (TooLarge n k) E w h = too_large_as E w n k h
+refused_as NoMemory E w h = tt
+
+-- by constructors, as the code has them
+pub name_refused : (p : _) (E : List Declaration) (w : Result Declaration TypingFault) → Types (Err (UnknownName p)) w
+    → IsRefusal (refused (refusal.Fault (fault.UnknownName p))) (within E w)
+name_refused p E w h = refused_as (UnknownName p) E w h
+
+pub kind_refused : (p : _) (E : List Declaration) (w : Result Declaration TypingFault) → Types (Err (WrongKind p)) w
+    → IsRefusal (refused (refusal.Fault (fault.WrongKind p))) (within E w)
+kind_refused p E w h = refused_as (WrongKind p) E w h
+
+pub sort_refused : (p : _) (E : List Declaration) (w : Result Declaration TypingFault) → Types (Err (WrongSort p)) w
+    → IsRefusal (refused (refusal.Fault (fault.WrongSort p))) (within E w)
+sort_refused p E w h = refused_as (WrongSort p) E w h
+
+pub arity_refused : (p : _) (E : List Declaration) (w : Result Declaration TypingFault) → Types (Err (WrongArity p)) w
+    → IsRefusal (refused (refusal.Fault (fault.WrongArity p))) (within E w)
+arity_refused p E w h = refused_as (WrongArity p) E w h
+
+pub declared_refused : (p : _) (E : List Declaration) (w : Result Declaration TypingFault) → Types (Err (AlreadyDeclared p)) w
+    → IsRefusal (refused (refusal.Fault (fault.AlreadyDeclared p))) (within E w)
+declared_refused p E w h = refused_as (AlreadyDeclared p) E w h
+
+pub large_refused : (n k : ℕ) (E : List Declaration) (w : Result Declaration TypingFault) → Types (Err (TooLarge n k)) w
+    → IsRefusal (refused (refusal.Fault (fault.TooLarge n k))) (within E w)
+large_refused n k E w h = too_large_as E w n k h
+
+pub ruleset refusing = (name_refused, kind_refused, sort_refused, arity_refused, declared_refused, large_refused)
+
+-- ---- what was typed
+
+pub judged_good : (E : List Declaration) (d : Decl) (w : Result Declaration TypingFault) → Types (Ok d) w
+    → None ≡ normal_excess E (declaration d) → Answers declaration refused (Ok d) (within E w)
+judged_good E d w (e, h) n = ap (within E) e
+    ∙ ap (λ o. sized o (declaration d)) (large_within E (declaration d) h ∙ sym n)
+
+pub judged_large : (E : List Declaration) (d : Decl) (w : Result Declaration TypingFault) (n h : ℕ) → Types (Ok d) w
+    → Some (n, h) ≡ normal_excess E (declaration d) → within E w ≡ Err (row_fault (too_large n h))
+judged_large E d w n h (e, l) k = ap (within E) e
+    ∙ ap (λ o. sized o (declaration d)) (large_within E (declaration d) l ∙ sym k)
+
+pub ruleset judging = (judged_good)
+
+-- ---- what a sentence declares is new
+
+new_of : (E : List Declaration) (d : Declaration) → Environment (d ∷ E) → IsNew E d
+new_of E d e = (e.0, e.1)
+
+pub typed_declares : (E : List Declaration) → Environment E → (x : Name) (y : Shape) (r : Result Decl ElabFault)
+    → Types r (declaration_of E x y) → (d : Decl) → r ≡ Ok d → Declares E (declaration d)
+typed_declares E v x y r t d e =
+    let u = subst (λ r. Types r (declaration_of E x y)) e t in
+    (declaration_admitted E v x y (declaration d) u.0).1
+
+pub typed_defines : (E : List Declaration) → Environment E → (x : Name) (gs : List Group) (r : Option Name) (a : Expression)
+    (t : Result Decl ElabFault) → Types t (definition_of E x gs r a) → (d : Decl) → t ≡ Ok d → Declares E (declaration d)
+typed_defines E v x gs r a t u d e =
+    let w = subst (λ t. Types t (definition_of E x gs r a)) e u in
+    (definition_admitted E v x gs r a (declaration d) w.0).1
+
+step_never : {A : Type 0} (e : StepFault) (x : A) → Path (Result A StepFault) (Err e) (Ok x) → ⊥
+step_never {A} e x h = cc
+
+sized_ok : (o : Option (ℕ × ℕ)) (d f : Declaration) → sized o d ≡ Ok f → d ≡ f
+sized_ok None d f h = cc
+sized_ok (Some z) d f h = absurd (step_never _ f h)
+
+within_ok : (E : List Declaration) (w : Result Declaration TypingFault) (f : Declaration) → within E w ≡ Ok f → w ≡ Ok f
+within_ok E (Ok d) f h = ap Ok (sized_ok (large_declaration E d) d f h)
+within_ok E (Err g) f h = absurd (step_never _ f h)
+
+pub declared_new : (E : List Declaration) → Environment E → (x : Name) (y : Shape) (r : Result Decl Refusal)
+    → Answers declaration refused r (check.declaration E x y) → IfOk r (λ d. IsNew E (declaration d))
+declared_new E v x y (Ok d) t = new_of E (declaration d) (declaration_admitted E v x y (declaration d)
+    (within_ok E (declaration_of E x y) (declaration d) t))
+declared_new E v x y (Err e) t = tt
+
+pub defined_new : (E : List Declaration) → Environment E → (x : Name) (gs : List Group) (r : Option Name) (a : Expression)
+    (t : Result Decl Refusal) → Answers declaration refused t (check.definition E x gs r a) → IfOk t (λ d. IsNew E (declaration d))
+defined_new E v x gs r a (Ok d) t = new_of E (declaration d) (definition_admitted E v x gs r a (declaration d)
+    (within_ok E (definition_of E x gs r a) (declaration d) t))
+defined_new E v x gs r a (Err e) t = tt

@@ -1,0 +1,4 @@
+pub mod Verdicts
+pub mod Standing
+pub mod Texts
+pub mod Back
