@@ -37,7 +37,7 @@ use Rattle.vern_grammar.specs.Trees.{
   Expressions,
 }
 use Rattle.vern_grammar.specs.Trees as made
-use Rattle.fol_theory.specs.Syntax.{Term, var, app, Terms, nil, cons, Formula, falsity, pred, equal, both, either, implies, is_name}
+use Rattle.fol_theory.specs.Syntax.{Term, var, app, Terms, cons, Formula, falsity, pred, equal, both, either, implies, is_name}
 use Rattle.env_theory.specs.Declarations.{Declaration, sort, function, predicate, stated, term, formula, sorts_of}
 use Rattle.base_core.specs.Answers.{and_then}
 use Rattle.elab_theory.specs.Faults.{Fault, wrong_sort, wrong_arity}
@@ -79,7 +79,7 @@ same_ok {A = A} r (Ok y) x e h = ap Ok (sym (some_is A x y (sym (ap value h) ∙
 same_ok {A = A} r (Err f) x e h = absurd (some_none A x (sym (ap value h) ∙ e))
 
 -- two steps with the same values
-then_same : {A B : Type 0} (r q : Result A Fault) (f g : A → Result B Fault) → value r ≡ value q → ((x : A) → value (f x) ≡ value (g x))
+pub then_same : {A B : Type 0} (r q : Result A Fault) (f g : A → Result B Fault) → value r ≡ value q → ((x : A) → value (f x) ≡ value (g x))
     → value (and_then r f) ≡ value (and_then q g)
 then_same {A = A} (Ok x) (Ok y) f g e h = ap (λ z. value (f z)) (some_is A x y e) ∙ h y
 then_same {A = A} (Ok x) (Err k) f g e h = absurd (some_none A x e)
@@ -131,7 +131,7 @@ formula_at_same (declared (formula m ps b)) x n ts us h =
     then_same (arguments_at n (sorts_of ps) (spanless_name x) ts) (arguments_at n (sorts_of ps) x us) (λ us. Ok (pred x.text us))
     (λ us. Ok (pred x.text us)) (arguments_same n (sorts_of ps) (spanless_name x) x ts us h) (λ us. refl)
 
-sort_at_same : (k : Known) (x : Name) → value (sort_at k (spanless_name x)) ≡ value (sort_at k x)
+pub sort_at_same : (k : Known) (x : Name) → value (sort_at k (spanless_name x)) ≡ value (sort_at k x)
 sort_at_same (bound i s) x = refl
 sort_at_same assumed x = refl
 sort_at_same unknown x = refl

@@ -40,38 +40,12 @@ use Rattle.print_theory.specs.Trees.{spanless, spanless_name, spanless_shape, te
 use Rattle.print_theory.specs.Reading.{IsShown, sentence_of}
 use Rattle.print_theory.specs.Typed.{AreDeclaredApart, IsPlaced}
 use Rattle.print_theory.proofs.Laws.{formula_reads, lemma_begins, axiom_declares}
-use Rattle.print_theory.proofs.Spans.{value, same_ok, formula_spanless}
+use Rattle.print_theory.proofs.Spans.{value, same_ok, then_same, sort_at_same, formula_spanless}
 use Rattle.print_theory.proofs.Typed.{formula_is_typed, formula_stands_apart}
 use Rattle.step_core.specs.Texts.{declaration_text}
 use Rattle.step_core.specs.Back.{sentence_text, ReadsAsLemma, ReadsAsAxiom}
 
--- ---- two steps with the same values
-
-some_is : (A : Type 0) (x y : A) → Path (Option A) (Some x) (Some y) → x ≡ y
-some_is A x y e = cc
-
-some_none : (A : Type 0) (x : A) → Path (Option A) (Some x) None → ⊥
-some_none A x e = cc
-
-then_same : {A B : Type 0} (r q : Result A Fault) (f g : A → Result B Fault) → value r ≡ value q → ((x : A) → value (f x) ≡ value (g x))
-    → value (and_then r f) ≡ value (and_then q g)
-then_same {A = A} (Ok x) (Ok y) f g e h = ap (λ z. value (f z)) (some_is A x y e) ∙ h y
-then_same {A = A} (Ok x) (Err k) f g e h = absurd (some_none A x e)
-then_same {A = A} (Err k) (Ok y) f g e h = absurd (some_none A y (sym e))
-then_same (Err k) (Err l) f g e h = refl
-
 -- ---- shapes: typing sees no spans but in its faults
-
-sort_at_same : (k : Known) (x : Name) → value (sort_at k (spanless_name x)) ≡ value (sort_at k x)
-sort_at_same (bound i s) x = refl
-sort_at_same assumed x = refl
-sort_at_same unknown x = refl
-sort_at_same (declared (sort n)) x = refl
-sort_at_same (declared (function n ss s)) x = refl
-sort_at_same (declared (predicate n ss)) x = refl
-sort_at_same (declared (stated n a)) x = refl
-sort_at_same (declared (term n ps s b)) x = refl
-sort_at_same (declared (formula n ps b)) x = refl
 
 sort_part_same : (E : List Declaration) (a : Expression) → value (sort_part E (spanless a)) ≡ value (sort_part E a)
 sort_part_same E (made.constant b p) = refl
