@@ -18,10 +18,15 @@ use Rattle.doc_lock.proofs.Lists.{each_append}
 use Rattle.lock_trial.specs.declared.notes.Note.{Note}
 use Rattle.lock_trial.specs.Noting.{HasWritten, notes_by, of_seat}
 
+module _ {E : Type 0} where
+  -- each number behind the first and before the second was joined
+  abbrev pub HasBetween : ℕ → ℕ → List (Folded E) → Type 0
+  HasBetween left made joined = (k : ℕ) → left < k → k < made → Has k joined
+
 module _ {E O : Type 0} where
   -- each number from n + 1 on was joined into the seat
   abbrev pub HasFrom : ℕ → View E O → Type 0
-  HasFrom n v = (k : ℕ) → n < k → k < v.made → Has k v.joined
+  HasFrom n v = HasBetween n v.made v.joined
 
 module _ {E : Type 0} where
   has_append : (k : ℕ) (xs ys : List (Folded E)) → Has k xs → Has k (xs ++ ys)
@@ -30,26 +35,26 @@ module _ {E : Type 0} where
 
   -- one number more was joined
   pub has_more : (left made : ℕ) (p : Folded E) (xs ys : List (Folded E)) → p.number ≡ left + 1
-      → ((k : ℕ) → left + 1 < k → k < made → Has k xs) → (k : ℕ) → left < k → k < made → Has k (p ∷ (xs ++ ys))
+      → HasBetween (left + 1) made xs → HasBetween left made (p ∷ (xs ++ ys))
   has_more left made p xs ys is old k low high =
       dite (ℕ_discrete k p.number) (λ e. inl (sym e)) (λ ne. inr (has_append k xs ys (old k (omega arith) high)))
 
 module _ {A : Type 0} where
-  -- what holds of each element holds of each that is left
-  pub all_left : (P : ℕ → A → Type 0) (l xs : List A) (x : A) → l ≡ xs ++ x ∷ [] → ((i : ℕ) (d : A) → i < length l → P i (get_or l i d))
-      → (i : ℕ) (d : A) → i < length xs → P i (get_or xs i d)
-  all_left P l xs x e h i d lt = subst (P i) (ap (λ z. get_or z i d) e
-      ∙ get_or-append xs (x ∷ []) d i lt) (h i d (omega (arith, ap length e, length-append xs (x ∷ []))))
-
   at_end : (xs : List A) (x : A) → get_or (xs ++ x ∷ []) (length xs) x ≡ x
   at_end [] x = refl
   at_end (y ∷ ys) x = at_end ys x
 
-  -- and of the last one
-  pub last_has : (P : ℕ → A → Type 0) (l xs : List A) (x : A) → l ≡ xs ++ x ∷ [] → ((i : ℕ) (d : A) → i < length l → P i (get_or l i d))
-      → P (length xs) x
-  last_has P l xs x e h = subst (P (length xs)) (ap (λ z. get_or z (length xs) x) e
-      ∙ at_end xs x) (h (length xs) x (omega (arith, ap length e, length-append xs (x ∷ []))))
+  module _ (P : ℕ → A → Type 0) (l xs : List A) (x : A) (e : l ≡ xs ++ x ∷ [])
+      (h : (i : ℕ) (d : A) → i < length l → P i (get_or l i d)) where
+    -- what holds of each element holds of each that is left
+    pub all_left : (i : ℕ) (d : A) → i < length xs → P i (get_or xs i d)
+    all_left i d lt = subst (P i) (ap (λ z. get_or z i d) e
+        ∙ get_or-append xs (x ∷ []) d i lt) (h i d (omega (arith, ap length e, length-append xs (x ∷ []))))
+
+    -- and of the last one
+    pub last_has : P (length xs) x
+    last_has = subst (P (length xs)) (ap (λ z. get_or z (length xs) x) e
+        ∙ at_end xs x) (h (length xs) x (omega (arith, ap length e, length-append xs (x ∷ []))))
 
   -- what holds of what a slice of a whole vector wrote back holds of the vector
   pub written_back : (P : List A → Type 0) (n : ℕ) (new old : List A) → length new ≡ n → length old ≡ n → P new
@@ -75,17 +80,18 @@ all_wrote (Ok _) (Ok _) Q v w h k = λ n q. (
 all_wrote (Ok _) (Err _) Q v w h k = tt
 all_wrote (Err _) _ Q v w h k = tt
 
--- the list has of each number that was joined just the notes of that seat
-joined_wrote : (n k : ℕ) (log : List Note) (ps : List (Folded Note)) → Has k ps
-    → Each (λ p. Begins p.seen log × (of_seat p.number log ≡ p.mine)) ps → Each (Wrote n) ps → of_seat k log ≡ notes_by k n
-joined_wrote n k log [] h own wrote = absurd h
-joined_wrote n k log (p ∷ ps) h own wrote = ⊎_elim (λ (e : p.number ≡ k). subst (λ j. of_seat j log ≡ notes_by j n) e (own.0.1 ∙ wrote.0))
-    (λ (t : Has k ps). joined_wrote n k log ps t own.1 wrote.1) h
+module _ (n k : ℕ) (log : List Note) where
+  -- the list has of each number that was joined just the notes of that seat
+  joined_wrote : (ps : List (Folded Note)) → Has k ps
+      → Each (λ p. Begins p.seen log × (of_seat p.number log ≡ p.mine)) ps → Each (Wrote n) ps → of_seat k log ≡ notes_by k n
+  joined_wrote [] h own wrote = absurd h
+  joined_wrote (p ∷ ps) h own wrote = ⊎_elim (λ (e : p.number ≡ k). subst (λ j. of_seat j log ≡ notes_by j n) e (own.0.1 ∙ wrote.0))
+      (λ (t : Has k ps). joined_wrote ps t own.1 wrote.1) h
 
-pub seats_wrote : (n k : ℕ) (log : List Note) (v : View Note ℕ) → v.number ≡ 0 → of_seat v.number log ≡ v.mine
-    → v.mine ≡ notes_by v.number n → Covers v
-    → Each (λ p. Begins p.seen log × (of_seat p.number log ≡ p.mine)) v.joined → Each (Wrote n) v.joined → k < v.made
-    → of_seat k log ≡ notes_by k n
-seats_wrote n k log v zeroth own mine all joined wrote low =
-    dite (ℕ_discrete k 0) (λ e. subst (λ j. of_seat j log ≡ notes_by j n) (zeroth ∙ sym e) (own ∙ mine))
-    (λ ne. joined_wrote n k log v.joined (all k (omega arith) low) joined wrote)
+  pub seats_wrote : (v : View Note ℕ) → v.number ≡ 0 → of_seat v.number log ≡ v.mine
+      → v.mine ≡ notes_by v.number n → Covers v
+      → Each (λ p. Begins p.seen log × (of_seat p.number log ≡ p.mine)) v.joined → Each (Wrote n) v.joined → k < v.made
+      → of_seat k log ≡ notes_by k n
+  seats_wrote v zeroth own mine all joined wrote low =
+      dite (ℕ_discrete k 0) (λ e. subst (λ j. of_seat j log ≡ notes_by j n) (zeroth ∙ sym e) (own ∙ mine))
+      (λ ne. joined_wrote v.joined (all k (omega arith) low) joined wrote)

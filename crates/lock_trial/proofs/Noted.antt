@@ -10,21 +10,22 @@ use Rattle.lock_trial.specs.Noting.{note, notes_by}
 abbrev by : Note → ℕ
 by e = e.by
 
-abbrev one_more : (n what : ℕ) (log now : List Note) → now ≡ log ++ note n what ∷ [] → Adds by n log now
-one_more n what log now more = (note n what ∷ [], more, (refl, tt))
+module _ (n what : ℕ) (log now : List Note) where
+  abbrev one_more : now ≡ log ++ note n what ∷ [] → Adds by n log now
+  one_more more = (note n what ∷ [], more, (refl, tt))
 
-pub adds_noted : {A B : Type 0} (r : Result A B) (n what : ℕ) (log now : List Note)
-    → MatchResult r (λ _. now ≡ log ++ note n what ∷ []) (λ _. now ≡ log) → Adds by n log now
-adds_noted (Ok _) n what log now more = one_more n what log now more
-adds_noted (Err _) n what log now same = ([], same ∙ sym (append-nil log), tt)
+  pub adds_noted : {A B : Type 0} (r : Result A B)
+      → MatchResult r (λ _. now ≡ log ++ note n what ∷ []) (λ _. now ≡ log) → Adds by n log now
+  adds_noted (Ok _) more = one_more more
+  adds_noted (Err _) same = ([], same ∙ sym (append-nil log), tt)
 
-pub mine_grows : {A B : Type 0} (r : Result A B) (n what : ℕ) (log now mine mine' : List Note) → only by n log ≡ mine
-    → mine' ≡ only by n now
-    → MatchResult r (λ _. now ≡ log ++ note n what ∷ []) (λ _. now ≡ log)
-    → MatchResult r (λ _. mine' ≡ mine ++ note n what ∷ []) (λ _. mine' ≡ mine)
-mine_grows (Ok _) n what log now mine mine' own is more = is
-    ∙ (adds_own by n log now (one_more n what log now more) ∙ ap (λ l. l ++ note n what ∷ []) own)
-mine_grows (Err _) n what log now mine mine' own is same = is ∙ (ap (only by n) same ∙ own)
+  pub mine_grows : {A B : Type 0} (r : Result A B) (mine mine' : List Note) → only by n log ≡ mine
+      → mine' ≡ only by n now
+      → MatchResult r (λ _. now ≡ log ++ note n what ∷ []) (λ _. now ≡ log)
+      → MatchResult r (λ _. mine' ≡ mine ++ note n what ∷ []) (λ _. mine' ≡ mine)
+  mine_grows (Ok _) mine mine' own is more = is
+      ∙ (adds_own by n log now (one_more more) ∙ ap (λ l. l ++ note n what ∷ []) own)
+  mine_grows (Err _) mine mine' own is same = is ∙ (ap (only by n) same ∙ own)
 
 -- a seat that wrote so many notes writes the next
 pub writes_more : (by k n : ℕ) (mine mine' : List Note) → k ≡ by → mine ≡ notes_by by n → mine' ≡ mine ++ note k n ∷ []

@@ -62,27 +62,27 @@ goals_append E (step r ∷ ps) rs (h ∷ hs) gs p = ap (goals (ps ++ rs)) (sym (
 first_of_two : {A : Type 0} (x y : A) (xs ys : List A) → x ∷ xs ≡ y ∷ ys → (x ≡ y) × (xs ≡ ys)
 first_of_two x y xs ys e = (cc, cc)
 
-pub follows_graft : (E : List Declaration) (part rs : List Rule) (gs : List Sequent) (hs : List Goal) (g : Goal) →
-    Follows E rs gs → goals rs gs ≡ g ∷ hs → Follows E part (sequent g ∷ []) → Follows E (graft part rs) gs
-follows_graft E part [] gs hs g p e q = absurd cc
-follows_graft E part (leaf ns ∷ rs) [] hs g p e q = absurd p
-follows_graft E part (step r ∷ rs) [] hs g p e q = absurd p
-follows_graft E part (leaf ns ∷ rs) (k ∷ ks) hs g p e q =
-    let t = first_of_two (goal (label ns k.context) k.goal) g (goals rs ks) hs e in
-    let same : sequent g ≡ k = ap sequent (sym t.0) ∙ ap (λ c. seq c k.goal) (label_entries ns k.context p.0) in
-    follows_append E part rs (k ∷ []) ks (subst (λ z. Follows E part (z ∷ [])) same q) p.1
-follows_graft E part (step r ∷ rs) (k ∷ ks) hs g p e q = (p.0, follows_graft E part rs (children r k.context k.goal ++ ks) hs g p.1 e q)
+module _ (E : List Declaration) (part : List Rule) (hs : List Goal) (g : Goal) (q : Follows E part (sequent g ∷ [])) where
+  pub follows_graft : (rs : List Rule) (gs : List Sequent) → Follows E rs gs → goals rs gs ≡ g ∷ hs → Follows E (graft part rs) gs
+  follows_graft [] gs p e = absurd cc
+  follows_graft (leaf ns ∷ rs) [] p e = absurd p
+  follows_graft (step r ∷ rs) [] p e = absurd p
+  follows_graft (leaf ns ∷ rs) (k ∷ ks) p e =
+      let t = first_of_two (goal (label ns k.context) k.goal) g (goals rs ks) hs e in
+      let same : sequent g ≡ k = ap sequent (sym t.0) ∙ ap (λ c. seq c k.goal) (label_entries ns k.context p.0) in
+      follows_append E part rs (k ∷ []) ks (subst (λ z. Follows E part (z ∷ [])) same q) p.1
+  follows_graft (step r ∷ rs) (k ∷ ks) p e = (p.0, follows_graft rs (children r k.context k.goal ++ ks) p.1 e)
 
-pub goals_graft : (E : List Declaration) (part rs : List Rule) (gs : List Sequent) (hs : List Goal) (g : Goal) → Follows E rs gs
-    → goals rs gs ≡ g ∷ hs → Follows E part (sequent g ∷ []) → goals (graft part rs) gs ≡ goals part (sequent g ∷ []) ++ hs
-goals_graft E part [] gs hs g p e q = absurd cc
-goals_graft E part (leaf ns ∷ rs) [] hs g p e q = absurd p
-goals_graft E part (step r ∷ rs) [] hs g p e q = absurd p
-goals_graft E part (leaf ns ∷ rs) (k ∷ ks) hs g p e q =
-    let t = first_of_two (goal (label ns k.context) k.goal) g (goals rs ks) hs e in
-    let same : sequent g ≡ k = ap sequent (sym t.0) ∙ ap (λ c. seq c k.goal) (label_entries ns k.context p.0) in
-    goals_append E part rs (k ∷ []) ks (subst (λ z. Follows E part (z ∷ [])) same q) ∙ (λ i. goals part (sym same i ∷ []) ++ t.1 i)
-goals_graft E part (step r ∷ rs) (k ∷ ks) hs g p e q = goals_graft E part rs (children r k.context k.goal ++ ks) hs g p.1 e q
+  pub goals_graft : (rs : List Rule) (gs : List Sequent) → Follows E rs gs → goals rs gs ≡ g ∷ hs
+      → goals (graft part rs) gs ≡ goals part (sequent g ∷ []) ++ hs
+  goals_graft [] gs p e = absurd cc
+  goals_graft (leaf ns ∷ rs) [] p e = absurd p
+  goals_graft (step r ∷ rs) [] p e = absurd p
+  goals_graft (leaf ns ∷ rs) (k ∷ ks) p e =
+      let t = first_of_two (goal (label ns k.context) k.goal) g (goals rs ks) hs e in
+      let same : sequent g ≡ k = ap sequent (sym t.0) ∙ ap (λ c. seq c k.goal) (label_entries ns k.context p.0) in
+      goals_append E part rs (k ∷ []) ks (subst (λ z. Follows E part (z ∷ [])) same q) ∙ (λ i. goals part (sym same i ∷ []) ++ t.1 i)
+  goals_graft (step r ∷ rs) (k ∷ ks) p e = goals_graft rs (children r k.context k.goal ++ ks) p.1 e
 
 -- ---- what a tree leads to
 
@@ -90,8 +90,8 @@ goals_graft E part (step r ∷ rs) (k ∷ ks) hs g p e q = goals_graft E part rs
 pub opens_first : (E : List Declaration) (g h : Goal) (hs ks : List Goal) → Opens E g (h ∷ hs) → Opens E h ks → Opens E g (ks ++ hs)
 opens_first E g h hs ks p q = record {
   tree = graft q.tree p.tree;
-  follows = follows_graft E q.tree p.tree (sequent g ∷ []) hs h p.follows p.leaves q.follows;
-  leaves = goals_graft E q.tree p.tree (sequent g ∷ []) hs h p.follows p.leaves q.follows ∙ ap (λ l. l ++ hs) q.leaves;
+  follows = follows_graft E q.tree hs h q.follows p.tree (sequent g ∷ []) p.follows p.leaves;
+  leaves = goals_graft E q.tree hs h q.follows p.tree (sequent g ∷ []) p.follows p.leaves ∙ ap (λ l. l ++ hs) q.leaves;
 }
 
 pub opens_then : (E : List Declaration) (g h : Goal) (ks : List Goal) → Opens E g (h ∷ []) → Opens E h ks → Opens E g ks

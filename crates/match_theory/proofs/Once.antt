@@ -76,19 +76,20 @@ once b k σ τ (ex s x a) h e o = subst (λ i. σ i ≡ τ i) (less k b) (once (
     less : (k b : ℕ) → suc k - suc b ≡ k - b
     less k b = omega arith
 
--- two instances have the same terms at the variables that occur
-pub instance_once : (n : ℕ) (pattern target : Formula) (ts us : List Term) → IsInstance n pattern target ts →
-    IsInstance n pattern target us → (i : ℕ) → Occurs i pattern → fill ts i ≡ fill us i
-instance_once n a c ts us p q i o = subst (λ j. fill ts j ≡ fill us j) (less i) (once 0 i (fill ts) (fill us) a (omega arith)
-    (p.1 ∙ sym q.1) o)
-  where
-    less : (i : ℕ) → i - 0 ≡ i
-    less i = omega arith
+module _ (n : ℕ) where
+  -- two instances have the same terms at the variables that occur
+  pub instance_once : (pattern target : Formula) (ts us : List Term) → IsInstance n pattern target ts →
+      IsInstance n pattern target us → (i : ℕ) → Occurs i pattern → fill ts i ≡ fill us i
+  instance_once a c ts us p q i o = subst (λ j. fill ts j ≡ fill us j) (less i) (once 0 i (fill ts) (fill us) a (omega arith)
+      (p.1 ∙ sym q.1) o)
+    where
+      less : (i : ℕ) → i - 0 ≡ i
+      less i = omega arith
 
-pub term_instance_once : (n : ℕ) (pattern target : Term) (ts us : List Term) → IsTermInstance n pattern target ts →
-    IsTermInstance n pattern target us → (i : ℕ) → OccursInTerm i pattern → fill ts i ≡ fill us i
-term_instance_once n t u ts us p q i o = subst (λ j. fill ts j ≡ fill us j) (less i) (once_term 0 i (fill ts) (fill us) t
-    (omega arith) (p.1 ∙ sym q.1) o)
-  where
-    less : (i : ℕ) → i - 0 ≡ i
-    less i = omega arith
+  pub term_instance_once : (pattern target : Term) (ts us : List Term) → IsTermInstance n pattern target ts →
+      IsTermInstance n pattern target us → (i : ℕ) → OccursInTerm i pattern → fill ts i ≡ fill us i
+  term_instance_once t u ts us p q i o = subst (λ j. fill ts j ≡ fill us j) (less i) (once_term 0 i (fill ts) (fill us) t
+      (omega arith) (p.1 ∙ sym q.1) o)
+    where
+      less : (i : ℕ) → i - 0 ≡ i
+      less i = omega arith

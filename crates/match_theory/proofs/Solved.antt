@@ -163,41 +163,42 @@ given (suc n) (suc j) t (x ∷ m) σ h = given_later n x m σ (give j t m) (give
 
 -- ---- variables
 
-open_var : (n b j : ℕ) (u : Term) (o : Option Term) (m : List (Option Term)) (σ : ℕ → Term) → j < n →
-    ((t : Term) → (o ≡ Some t) ↔ (shift_term 0 b t ≡ u)) → (Fits n m σ × (shift_term 0 b (σ j) ≡ u)) ↔
-    Solves n (and_then o (λ t. give j t m)) σ
-open_var n b j u None m σ h d = never n σ (λ e. absurd (none_some (σ j) ((d (σ j)).1 e)))
-  where
-    none_some : (t : Term) → None ≡ Some t → ⊥
-    none_some t e = cc
-open_var n b j u (Some t) m σ h d = said (λ e. some_is (σ j) t ((d (σ j)).1 e)) (λ e. ap (shift_term 0 b) e ∙ (d t).0 refl)
-    (given n j t m σ h)
-  where
-    some_is : (s t : Term) → Some t ≡ Some s → s ≡ t
-    some_is s t e = cc
-
 lowered : (b : ℕ) (u t : Term) → (lower b u ≡ Some t) ↔ (shift_term 0 b t ≡ u)
 lowered b u t = (lower_is b u t, λ e. ap (lower b) (sym e) ∙ lower_shifted b t)
 
-pub solved_var : (n b i : ℕ) (u : Term) (m : List (Option Term)) (σ : ℕ → Term) → Lowers n σ → (Fits n m σ × (lifts b σ i ≡ u))
-    ↔ Solves n (match_var n b i u m) σ
-solved_var n b i u m σ l = go (nat_lt i b) (nat_lt (i - b) n) refl refl
-  where
-    go : (r s : Bool) → nat_lt i b ≡ r → nat_lt (i - b) n ≡ s → (Fits n m σ × (lifts b σ i ≡ u)) ↔
-        Solves n (if r then (if same_term (var i) u then Some m else None)
-        else (if s then and_then (lower b u) (λ t. give (i - b) t m) else (if same_term (var (i - n)) u then Some m else None))) σ
-    go true s p q = said (λ e. sym (lifts_small b σ i (grind (arith, nat_tests))) ∙ e)
-        (λ e. lifts_small b σ i (grind (arith, nat_tests)) ∙ e) (tested n σ m (same_term (var i) u) (term_decides (var i) u))
-    go false true p q = said (λ e. sym (lifts_large b σ i (grind (arith, nat_tests))) ∙ e)
-        (λ e. lifts_large b σ i (grind (arith, nat_tests)) ∙ e) (open_var n b (i - b) u (lower b u) m σ
-        (grind (arith, nat_tests)) (lowered b u))
-    go false false p q = said (λ e. sym (outer (grind (arith, nat_tests)) (grind (arith, nat_tests))) ∙ e)
-        (λ e. outer (grind (arith, nat_tests)) (grind (arith, nat_tests)) ∙ e) (tested n σ m (same_term (var (i - n)) u)
-        (term_decides (var (i - n)) u))
-      where
-        outer : b ≤ i → n ≤ i - b → lifts b σ i ≡ var (i - n)
-        outer h k = lifts_large b σ i h ∙ ap (shift_term 0 b) (l (i - b) k) ∙ raise_large 0 b (i - b - n) (omega arith) ∙
-            ap var (omega (arith, h, k))
+module _ (n b : ℕ) where
+  open_var : (j : ℕ) (u : Term) (o : Option Term) (m : List (Option Term)) (σ : ℕ → Term) → j < n →
+      ((t : Term) → (o ≡ Some t) ↔ (shift_term 0 b t ≡ u)) → (Fits n m σ × (shift_term 0 b (σ j) ≡ u)) ↔
+      Solves n (and_then o (λ t. give j t m)) σ
+  open_var j u None m σ h d = never n σ (λ e. absurd (none_some (σ j) ((d (σ j)).1 e)))
+    where
+      none_some : (t : Term) → None ≡ Some t → ⊥
+      none_some t e = cc
+  open_var j u (Some t) m σ h d = said (λ e. some_is (σ j) t ((d (σ j)).1 e)) (λ e. ap (shift_term 0 b) e ∙ (d t).0 refl)
+      (given n j t m σ h)
+    where
+      some_is : (s t : Term) → Some t ≡ Some s → s ≡ t
+      some_is s t e = cc
+
+  pub solved_var : (i : ℕ) (u : Term) (m : List (Option Term)) (σ : ℕ → Term) → Lowers n σ → (Fits n m σ × (lifts b σ i ≡ u))
+      ↔ Solves n (match_var n b i u m) σ
+  solved_var i u m σ l = go (nat_lt i b) (nat_lt (i - b) n) refl refl
+    where
+      go : (r s : Bool) → nat_lt i b ≡ r → nat_lt (i - b) n ≡ s → (Fits n m σ × (lifts b σ i ≡ u)) ↔
+          Solves n (if r then (if same_term (var i) u then Some m else None)
+          else (if s then and_then (lower b u) (λ t. give (i - b) t m) else (if same_term (var (i - n)) u then Some m else None))) σ
+      go true s p q = said (λ e. sym (lifts_small b σ i (grind (arith, nat_tests))) ∙ e)
+          (λ e. lifts_small b σ i (grind (arith, nat_tests)) ∙ e) (tested n σ m (same_term (var i) u) (term_decides (var i) u))
+      go false true p q = said (λ e. sym (lifts_large b σ i (grind (arith, nat_tests))) ∙ e)
+          (λ e. lifts_large b σ i (grind (arith, nat_tests)) ∙ e) (open_var (i - b) u (lower b u) m σ
+          (grind (arith, nat_tests)) (lowered b u))
+      go false false p q = said (λ e. sym (outer (grind (arith, nat_tests)) (grind (arith, nat_tests))) ∙ e)
+          (λ e. outer (grind (arith, nat_tests)) (grind (arith, nat_tests)) ∙ e) (tested n σ m (same_term (var (i - n)) u)
+          (term_decides (var (i - n)) u))
+        where
+          outer : b ≤ i → n ≤ i - b → lifts b σ i ≡ var (i - n)
+          outer h k = lifts_large b σ i h ∙ ap (shift_term 0 b) (l (i - b) k) ∙ raise_large 0 b (i - b - n) (omega arith) ∙
+              ap var (omega (arith, h, k))
 
 -- ---- terms
 

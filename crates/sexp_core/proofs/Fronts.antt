@@ -398,7 +398,7 @@ module _ {limit : ℕ} {bytes : List ℕ} {front : Front} {m : Machine} {gap : G
           | scanned.Bad kind offset ↦ λ scans not. let e = ap (taken_of false u) (found_is ∙ scans.0) in cc
         ] scans not
 
-    -- the item ends, or a bad place is shown
+    -- the item ends
     module _ (v : Sexp) (to : ℕ) (sc : Scanned) (n : Machine) (is : sc ≡ scanned.Whole v to)
         (scans : Scans limit (front.at + gap.len) front.seen (state_of m) (drop front.seen item) sc n) where
       whole : first_of limit (unread_from bytes front) ≡ value (meaning v) (front.at + gap.len) to
@@ -436,26 +436,27 @@ module _ {limit : ℕ} {bytes : List ℕ} {front : Front} {m : Machine} {gap : G
       pub whole-shallow : nesting (meaning v) ≤ most_lists
       whole-shallow = item_shallow r.limit false r.unread _ taken_whole
 
-    pub gives-bad : (kind : BadKind) (offset : ℕ) (sc : Scanned) (n : Machine) → sc ≡ scanned.Bad kind offset
-        → Scans limit (front.at + gap.len) front.seen (state_of m) (drop front.seen item) sc n
-        → (buffer : List ℕ) (before : ℕ) (next : Front) → buffer ≡ bytes → before ≡ offset - front.at
-        → unread_from buffer next ≡ behind_rest_of_line offset (drop (front.start + before) buffer)
-        → (next_item r.limit false r.unread ≡ Some (record { item = bad_item offset kind; rest = unread_from bytes next }))
-        × (limit ≡ r.limit)
-    gives-bad kind offset sc n is scans buffer before next b e f =
-        let R : Reading → Type 0 = λ r. (next_item r.limit false r.unread
-        ≡ Some (record { item = bad_item offset kind; rest = unread_from bytes next })) × (limit ≡ r.limit) in
-        let shown = (subst (λ sc. Scans limit (front.at + gap.len) front.seen (state_of m) (drop front.seen item) sc n) is scans).0 in
-        let here : unread_from bytes next ≡ behind_rest_of_line offset (drop (front.start + (offset - front.at)) bytes) =
-        subst (λ xs. unread_from xs next ≡ behind_rest_of_line offset (drop (front.start + before) xs)) b f
-        ∙ ap (λ k. behind_rest_of_line offset (drop (front.start + k) bytes)) e in
-        subst R l.is_view (
-          ap (taken_of false (unread_from bytes front)) (found_is ∙ shown)
-              ∙ ap (λ xs. Some (record { item = bad_item offset kind; rest = behind_rest_of_line offset xs }))
-              (drop-drop (offset - front.at) front.start bytes)
-              ∙ ap (λ u. Some (record { item = bad_item offset kind; rest = u })) (sym here),
-          refl,
-        )
+    -- a bad place is shown
+    module _ (kind : BadKind) (offset : ℕ) (sc : Scanned) (n : Machine) (is : sc ≡ scanned.Bad kind offset)
+        (scans : Scans limit (front.at + gap.len) front.seen (state_of m) (drop front.seen item) sc n) where
+      pub gives-bad : (buffer : List ℕ) (before : ℕ) (next : Front) → buffer ≡ bytes → before ≡ offset - front.at
+          → unread_from buffer next ≡ behind_rest_of_line offset (drop (front.start + before) buffer)
+          → (next_item r.limit false r.unread ≡ Some (record { item = bad_item offset kind; rest = unread_from bytes next }))
+          × (limit ≡ r.limit)
+      gives-bad buffer before next b e f =
+          let R : Reading → Type 0 = λ r. (next_item r.limit false r.unread
+          ≡ Some (record { item = bad_item offset kind; rest = unread_from bytes next })) × (limit ≡ r.limit) in
+          let shown = (subst (λ sc. Scans limit (front.at + gap.len) front.seen (state_of m) (drop front.seen item) sc n) is scans).0 in
+          let here : unread_from bytes next ≡ behind_rest_of_line offset (drop (front.start + (offset - front.at)) bytes) =
+          subst (λ xs. unread_from xs next ≡ behind_rest_of_line offset (drop (front.start + before) xs)) b f
+          ∙ ap (λ k. behind_rest_of_line offset (drop (front.start + k) bytes)) e in
+          subst R l.is_view (
+            ap (taken_of false (unread_from bytes front)) (found_is ∙ shown)
+                ∙ ap (λ xs. Some (record { item = bad_item offset kind; rest = behind_rest_of_line offset xs }))
+                (drop-drop (offset - front.at) front.start bytes)
+                ∙ ap (λ u. Some (record { item = bad_item offset kind; rest = u })) (sym here),
+            refl,
+          )
 
 -- the last item of an input is of bytes
 last_taken : (o : Option Taken) (i : Item) → Some i ≡ option_map (λ t. t.item) o → (t : Taken) × (o ≡ Some t) × (t.item ≡ i)

@@ -128,65 +128,65 @@ end_found limit from bytes s h n l = by_test (IsFound limit from bytes) (is_oute
 cons_some : (b : ℕ) (bytes : List ℕ) → b ∷ bytes ≡ [] → ⊥
 cons_some b bytes e = omega (arith, ap length e)
 
-whole_found : (limit from : ℕ) (bytes more : List ℕ) (b : ℕ) (v : Value) (behind : Bool) → length bytes ≤ limit
-    → (behind ≡ false → length bytes < limit) → nesting v ≤ most_lists → WholeBy behind bytes b v
-    → IsFound limit from (bytes ++ b ∷ more) (value v from (if behind then from + length bytes else from + length bytes + 1))
-whole_found limit from bytes more b v true l room fits h =
-    ([], bytes, b ∷ more, refl, no_gap, h.1, (λ r e. cons_some b more e), (λ r. h.2), fits, l, omega arith, refl)
-whole_found limit from bytes more b v false l room fits h =
-    let n = length-append bytes (b ∷ []) in (
-      [],
-      bytes ++ b ∷ [],
-      more,
-      sym (append_assoc bytes (b ∷ []) more),
-      no_gap,
-      h.0,
-      (λ r. absurd (h.1 r)),
-      (λ r. absurd (h.1 r)),
-      fits,
-      omega (arith, n, room refl),
-      omega arith,
-      omega (arith, n),
-    )
-
 room_from : (behind : Bool) (limit n : ℕ) → (not behind && nat_le limit n) ≡ false → behind ≡ false → n < limit
 room_from true limit n e k = absurd (true≢false k)
 room_from false limit n e k = leb-false limit n e
-
-next_found : (limit from : ℕ) (bytes more : List ℕ) (s : State) (b : ℕ) (r : Step) → length bytes ≤ limit
-    → (is_behind s b ≡ false → length bytes < limit) → Good bytes b (is_behind s b) r
-    → ((t : State) → Kept (bytes ++ b ∷ []) t → length (bytes ++ b ∷ []) ≤ limit
-    → IsFound limit from ((bytes ++ b ∷ []) ++ more) (found_from limit from (length (bytes ++ b ∷ [])) t more))
-    → IsFound limit from (bytes ++ b ∷ more) (found_by limit from (length bytes) s b more r)
-next_found limit from bytes more s b (on t) l room h ih =
-    let n : length (bytes ++ b ∷ []) ≡ length bytes + 1 = length-append bytes (b ∷ []) in
-    subst (λ xs. IsFound limit from xs (found_from limit from (length bytes + 1) t more)) (append_assoc bytes (b ∷ []) more)
-    (subst (λ k. IsFound limit from ((bytes ++ b ∷ []) ++ more) (found_from limit from k t more)) n (ih t h.1 (omega (arith, n, room h.0))))
-next_found limit from bytes more s b (whole v) l room h ih = whole_found limit from bytes more b v (is_behind s b) l room h.0 h.1
-next_found limit from bytes more s b (shown kind back) l room h ih =
-    ([], bytes, more, b, length bytes - back, refl, no_gap, h.1 limit l room, omega (arith, h.0))
 
 not_behind_plain : (o d : Bool) → not (o && d) ≡ true → o ≡ true → not d ≡ true
 not_behind_plain false d e k = absurd (false≢true k)
 not_behind_plain true d e k = e
 
-too_long_found : (limit from : ℕ) (bytes more : List ℕ) (s : State) (b : ℕ) → Kept bytes s → bytes ≢ [] → length bytes ≤ limit
-    → (not (is_behind s b) && nat_le limit (length bytes)) ≡ true
-    → IsFound limit from (bytes ++ b ∷ more) (bad TooLong (from + length bytes))
-too_long_found limit from bytes more s b h n l e =
-    let p = and_parts (not (is_behind s b)) (nat_le limit (length bytes)) e in
-    let full : length bytes ≡ limit = omega (arith, l, leb-true limit (length bytes) p.1) in (
-      [],
-      bytes,
-      more,
-      b,
-      limit,
-      refl,
-      no_gap,
-      too_long (unfinished_at s.mode bytes s.atom s.lists h n)
-          (λ r. not_behind_plain (is_outer_run s.mode s.lists) (is_delimiter b) p.0 (outer_at s.mode bytes s.atom s.lists h r)) full,
-      omega (arith, full),
-    )
+module _ (limit from : ℕ) (bytes more : List ℕ) (b : ℕ) (l : length bytes ≤ limit) where
+  whole_found : (v : Value) (behind : Bool) → (behind ≡ false → length bytes < limit) → nesting v ≤ most_lists → WholeBy behind bytes b v
+      → IsFound limit from (bytes ++ b ∷ more) (value v from (if behind then from + length bytes else from + length bytes + 1))
+  whole_found v true room fits h =
+      ([], bytes, b ∷ more, refl, no_gap, h.1, (λ r e. cons_some b more e), (λ r. h.2), fits, l, omega arith, refl)
+  whole_found v false room fits h =
+      let n = length-append bytes (b ∷ []) in (
+        [],
+        bytes ++ b ∷ [],
+        more,
+        sym (append_assoc bytes (b ∷ []) more),
+        no_gap,
+        h.0,
+        (λ r. absurd (h.1 r)),
+        (λ r. absurd (h.1 r)),
+        fits,
+        omega (arith, n, room refl),
+        omega arith,
+        omega (arith, n),
+      )
+
+  next_found : (s : State) (r : Step) → (is_behind s b ≡ false → length bytes < limit) → Good bytes b (is_behind s b) r
+      → ((t : State) → Kept (bytes ++ b ∷ []) t → length (bytes ++ b ∷ []) ≤ limit
+      → IsFound limit from ((bytes ++ b ∷ []) ++ more) (found_from limit from (length (bytes ++ b ∷ [])) t more))
+      → IsFound limit from (bytes ++ b ∷ more) (found_by limit from (length bytes) s b more r)
+  next_found s (on t) room h ih =
+      let n : length (bytes ++ b ∷ []) ≡ length bytes + 1 = length-append bytes (b ∷ []) in
+      subst (λ xs. IsFound limit from xs (found_from limit from (length bytes + 1) t more)) (append_assoc bytes (b ∷ []) more)
+      (subst (λ k. IsFound limit from ((bytes ++ b ∷ []) ++ more) (found_from limit from k t more)) n
+      (ih t h.1 (omega (arith, n, room h.0))))
+  next_found s (whole v) room h ih = whole_found v (is_behind s b) room h.0 h.1
+  next_found s (shown kind back) room h ih =
+      ([], bytes, more, b, length bytes - back, refl, no_gap, h.1 limit l room, omega (arith, h.0))
+
+  too_long_found : (s : State) → Kept bytes s → bytes ≢ []
+      → (not (is_behind s b) && nat_le limit (length bytes)) ≡ true
+      → IsFound limit from (bytes ++ b ∷ more) (bad TooLong (from + length bytes))
+  too_long_found s h n e =
+      let p = and_parts (not (is_behind s b)) (nat_le limit (length bytes)) e in
+      let full : length bytes ≡ limit = omega (arith, l, leb-true limit (length bytes) p.1) in (
+        [],
+        bytes,
+        more,
+        b,
+        limit,
+        refl,
+        no_gap,
+        too_long (unfinished_at s.mode bytes s.atom s.lists h n)
+            (λ r. not_behind_plain (is_outer_run s.mode s.lists) (is_delimiter b) p.0 (outer_at s.mode bytes s.atom s.lists h r)) full,
+        omega (arith, full),
+      )
 
 no_start : Starts [] → ⊥
 no_start h = cons_some h.0 h.1 (sym h.2)
@@ -195,26 +195,27 @@ first_from : (bytes : List ℕ) (b : ℕ) (more : List ℕ) → (bytes ≡ [] �
 first_from bytes b more h none = let s = h none in let same : s.0 ≡ b = cc in
     (subst (λ c. is_blank c ≡ false) same s.3, subst (λ c. c ≡ 59 → ⊥) same (eqb-false s.0 59 s.4))
 
-pub found_rest : (rest : List ℕ) (limit from : ℕ) (s : State) (bytes : List ℕ) → 0 < limit → Kept bytes s → length bytes ≤ limit
-    → (bytes ≡ [] → Starts rest)
-    → IsFound limit from (bytes ++ rest) (found_from limit from (length bytes) s rest)
-found_rest [] limit from s bytes z h l f =
-    subst (λ xs. IsFound limit from xs (at_end from s)) (sym (append-nil bytes))
-    (end_found limit from bytes s h (λ none. no_start (f none)) l)
-found_rest (b ∷ more) limit from s bytes z h l f =
-    by_test (IsFound limit from (bytes ++ b ∷ more)) (not (is_behind s b) && nat_le limit (length bytes))
-    (bad TooLong (from + length bytes)) (found_by limit from (length bytes) s b more (step s b))
-    (λ e. too_long_found limit from bytes more s b h
-    (λ none. absurd (omega (
-      arith,
-      z,
-      ap length none,
-      leb-true limit (length bytes) (and_parts (not (is_behind s b)) (nat_le limit (length bytes)) e).1,
-    ))) l e)
-    (λ e. next_found limit from bytes more s b (step s b) l (room_from (is_behind s b) limit (length bytes) e)
-    (good bytes s b h (first_from bytes b more f))
-    (λ t k j. found_rest more limit from t (bytes ++ b ∷ []) z k j
-    (λ none. absurd (omega (arith, ap length none, length-append bytes (b ∷ []))))))
+module _ (limit from : ℕ) (z : 0 < limit) where
+  pub found_rest : (rest : List ℕ) (s : State) (bytes : List ℕ) → Kept bytes s → length bytes ≤ limit
+      → (bytes ≡ [] → Starts rest)
+      → IsFound limit from (bytes ++ rest) (found_from limit from (length bytes) s rest)
+  found_rest [] s bytes h l f =
+      subst (λ xs. IsFound limit from xs (at_end from s)) (sym (append-nil bytes))
+      (end_found limit from bytes s h (λ none. no_start (f none)) l)
+  found_rest (b ∷ more) s bytes h l f =
+      by_test (IsFound limit from (bytes ++ b ∷ more)) (not (is_behind s b) && nat_le limit (length bytes))
+      (bad TooLong (from + length bytes)) (found_by limit from (length bytes) s b more (step s b))
+      (λ e. too_long_found limit from bytes more b l s h
+      (λ none. absurd (omega (
+        arith,
+        z,
+        ap length none,
+        leb-true limit (length bytes) (and_parts (not (is_behind s b)) (nat_le limit (length bytes)) e).1,
+      ))) e)
+      (λ e. next_found limit from bytes more b l s (step s b) (room_from (is_behind s b) limit (length bytes) e)
+      (good bytes s b h (first_from bytes b more f))
+      (λ t k j. found_rest more t (bytes ++ b ∷ []) k j
+      (λ none. absurd (omega (arith, ap length none, length-append bytes (b ∷ []))))))
 
 -- ---- before the item
 
@@ -298,7 +299,7 @@ mutual
       (λ n. by_test (IsFound limit at (b ∷ rest)) (b == 59) (found_behind_line limit (at + 1) rest) (found_from limit at 0 start (b ∷ rest))
       (λ e. subst (λ c. IsFound limit at (c ∷ rest) (found_behind_line limit (at + 1) rest)) (sym (eqb-true b 59 e))
       (line_found limit at rest (found_behind_line limit (at + 1) rest) (behind_text rest limit (at + 1) z)))
-      (λ k. found_rest (b ∷ rest) limit at start [] z (refl, refl, refl) (omega arith) (λ none. (b, rest, refl, n, k))))
+      (λ k. found_rest limit at z (b ∷ rest) start [] (refl, refl, refl) (omega arith) (λ none. (b, rest, refl, n, k))))
 
   pub behind_text : (text : List ℕ) (limit at : ℕ) → 0 < limit → IsFoundBehindLine limit at text (found_behind_line limit at text)
   behind_text [] limit at z = inl (All-nil (λ c. is_of_line c ≡ true), refl)

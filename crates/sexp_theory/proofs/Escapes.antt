@@ -27,48 +27,48 @@ IsEscape bytes mode = ⊥
 
 -- ---- what is begun has a mode
 
-begun_letter : (rest more : List ℕ) (next l : ℕ) → 92 ∷ (rest ++ next ∷ more) ≡ 92 ∷ l ∷ [] → (m : Mode) × IsEscape (92 ∷ rest) m
-begun_letter [] more next l e = (escaped, refl)
-begun_letter (r ∷ rest) more next l e = absurd (no_end rest next more cc)
+module _ (more : List ℕ) (next : ℕ) where
+  begun_letter : (rest : List ℕ) (l : ℕ) → 92 ∷ (rest ++ next ∷ more) ≡ 92 ∷ l ∷ [] → (m : Mode) × IsEscape (92 ∷ rest) m
+  begun_letter [] l e = (escaped, refl)
+  begun_letter (r ∷ rest) l e = absurd (no_end rest next more cc)
 
-begun_decimal : (rest more : List ℕ) (next x y z : ℕ) → 92 ∷ (rest ++ next ∷ more) ≡ 92 ∷ x ∷ y ∷ z ∷ [] → digit_value y < 10
-    → digit_value x * 100 + digit_value y * 10 < 256
-    → (m : Mode) × IsEscape (92 ∷ rest) m
-begun_decimal [] more next x y z e hy h = (escaped, refl)
-begun_decimal (r ∷ []) more next x y z e hy h =
-    let same : x ≡ r = cc in (decimal1 (digit_value r), (r, refl, omega (arith, h, ap digit_value same), refl))
-begun_decimal (r ∷ s ∷ []) more next x y z e hy h =
-    let same : x ≡ r = cc in let same' : y ≡ s = cc in (
-      decimal2 (digit_value r * 10 + digit_value s),
-      (
-        r,
-        s,
-        refl,
-        omega (arith, h, ap digit_value same),
-        omega (arith, hy, ap digit_value same'),
-        omega (arith, h, ap digit_value same, ap digit_value same'),
-        refl,
-      ),
-    )
-begun_decimal (r ∷ s ∷ t ∷ rest) more next x y z e hy h = absurd (no_end rest next more cc)
+  begun_decimal : (rest : List ℕ) (x y z : ℕ) → 92 ∷ (rest ++ next ∷ more) ≡ 92 ∷ x ∷ y ∷ z ∷ [] → digit_value y < 10
+      → digit_value x * 100 + digit_value y * 10 < 256 → (m : Mode) × IsEscape (92 ∷ rest) m
+  begun_decimal [] x y z e hy h = (escaped, refl)
+  begun_decimal (r ∷ []) x y z e hy h =
+      let same : x ≡ r = cc in (decimal1 (digit_value r), (r, refl, omega (arith, h, ap digit_value same), refl))
+  begun_decimal (r ∷ s ∷ []) x y z e hy h =
+      let same : x ≡ r = cc in let same' : y ≡ s = cc in (
+        decimal2 (digit_value r * 10 + digit_value s),
+        (
+          r,
+          s,
+          refl,
+          omega (arith, h, ap digit_value same),
+          omega (arith, hy, ap digit_value same'),
+          omega (arith, h, ap digit_value same, ap digit_value same'),
+          refl,
+        ),
+      )
+  begun_decimal (r ∷ s ∷ t ∷ rest) x y z e hy h = absurd (no_end rest next more cc)
 
-begun_hexadecimal : (rest more : List ℕ) (next x y : ℕ) → 92 ∷ (rest ++ next ∷ more) ≡ 92 ∷ 120 ∷ x ∷ y ∷ [] → digit_value x < 16
-    → (m : Mode) × IsEscape (92 ∷ rest) m
-begun_hexadecimal [] more next x y e hx = (escaped, refl)
-begun_hexadecimal (r ∷ []) more next x y e hx = (hexadecimal0, cc)
-begun_hexadecimal (r ∷ s ∷ []) more next x y e hx =
-    let same : x ≡ s = cc in (hexadecimal1 (digit_value s), (s, cc, omega (arith, hx, ap digit_value same), refl))
-begun_hexadecimal (r ∷ s ∷ t ∷ rest) more next x y e hx = absurd (no_end rest next more cc)
+  begun_hexadecimal : (rest : List ℕ) (x y : ℕ) → 92 ∷ (rest ++ next ∷ more) ≡ 92 ∷ 120 ∷ x ∷ y ∷ [] → digit_value x < 16
+      → (m : Mode) × IsEscape (92 ∷ rest) m
+  begun_hexadecimal [] x y e hx = (escaped, refl)
+  begun_hexadecimal (r ∷ []) x y e hx = (hexadecimal0, cc)
+  begun_hexadecimal (r ∷ s ∷ []) x y e hx =
+      let same : x ≡ s = cc in (hexadecimal1 (digit_value s), (s, cc, omega (arith, hx, ap digit_value same), refl))
+  begun_hexadecimal (r ∷ s ∷ t ∷ rest) x y e hx = absurd (no_end rest next more cc)
 
-begun : (rest more : List ℕ) (next of : ℕ) → IsByte (92 ∷ (rest ++ next ∷ more)) of → (m : Mode) × IsEscape (92 ∷ rest) m
-begun rest more next of (itself e h k) = absurd (no_end rest next more cc)
-begun rest more next of (letter l e is h) = begun_letter rest more next l e
-begun rest more next of (decimal x y z e hx hy hz is h) = begun_decimal rest more next x y z e hy (omega (arith, is, h))
-begun rest more next of (hexadecimal x y e hx hy is) = begun_hexadecimal rest more next x y e hx
+  begun : (rest : List ℕ) (of : ℕ) → IsByte (92 ∷ (rest ++ next ∷ more)) of → (m : Mode) × IsEscape (92 ∷ rest) m
+  begun rest of (itself e h k) = absurd (no_end rest next more cc)
+  begun rest of (letter l e is h) = begun_letter rest l e
+  begun rest of (decimal x y z e hx hy hz is h) = begun_decimal rest x y z e hy (omega (arith, is, h))
+  begun rest of (hexadecimal x y e hx hy is) = begun_hexadecimal rest x y e hx
 
 pub escape_mode : (escape : List ℕ) → BeginsEscape escape → (m : Mode) × IsEscape escape m
 escape_mode escape h =
-    let r = begun h.first.0 h.more h.next h.of (subst (λ xs. IsByte (xs ++ h.next ∷ h.more) h.of) h.first.1 h.is_byte) in
+    let r = begun h.more h.next h.first.0 h.of (subst (λ xs. IsByte (xs ++ h.next ∷ h.more) h.of) h.first.1 h.is_byte) in
     (r.0, subst (λ xs. IsEscape xs r.0) (sym h.first.1) r.1)
 
 -- ---- what has a mode is begun
@@ -297,22 +297,20 @@ steps_hexadecimal1 of lists x b hx = one (cases_lt (digit_value b) 16)
       no_byte_x x b h,
     ))
 
-at_escape : (m n : Mode) (escape bytes of : List ℕ) (lists : List (List Value)) (b : ℕ) → escape ≡ bytes → m ≡ n
+at_escape : {escape bytes : List ℕ} (m n : Mode) (of : List ℕ) (lists : List (List Value)) (b : ℕ) → escape ≡ bytes → m ≡ n
     → EscapeStep n bytes of lists b → EscapeStep m escape of lists b
-at_escape m n escape bytes of lists b e k h = subst (λ x. EscapeStep x escape of lists b) (sym k)
+at_escape {escape} {bytes} m n of lists b e k h = subst (λ x. EscapeStep x escape of lists b) (sym k)
     (subst (λ xs. EscapeStep n xs of lists b) (sym e) h)
 
 pub escape_steps : (m : Mode) (escape of : List ℕ) (lists : List (List Value)) (b : ℕ) → IsEscape escape m → EscapeStep m escape of lists b
-escape_steps escaped escape of lists b h = at_escape escaped escaped escape (92 ∷ []) of lists b h refl (steps_escaped of lists b)
+escape_steps escaped escape of lists b h = at_escape escaped escaped of lists b h refl (steps_escaped of lists b)
 escape_steps (decimal1 n) escape of lists b h =
-    at_escape (decimal1 n) (decimal1 (digit_value h.0)) escape (92 ∷ h.0 ∷ []) of lists b h.1 (ap decimal1 h.3)
-    (steps_decimal1 of lists h.0 b h.2)
+    at_escape (decimal1 n) (decimal1 (digit_value h.0)) of lists b h.1 (ap decimal1 h.3) (steps_decimal1 of lists h.0 b h.2)
 escape_steps (decimal2 n) escape of lists b h =
-    at_escape (decimal2 n) (decimal2 (digit_value h.0 * 10 + digit_value h.1)) escape (92 ∷ h.0 ∷ h.1 ∷ []) of lists b h.2
-    (ap decimal2 h.6) (steps_decimal2 of lists h.0 h.1 b h.3 h.4 h.5)
-escape_steps hexadecimal0 escape of lists b h =
-    at_escape hexadecimal0 hexadecimal0 escape (92 ∷ 120 ∷ []) of lists b h refl (steps_hexadecimal0 of lists b)
+    at_escape (decimal2 n) (decimal2 (digit_value h.0 * 10 + digit_value h.1)) of lists b h.2 (ap decimal2 h.6)
+    (steps_decimal2 of lists h.0 h.1 b h.3 h.4 h.5)
+escape_steps hexadecimal0 escape of lists b h = at_escape hexadecimal0 hexadecimal0 of lists b h refl (steps_hexadecimal0 of lists b)
 escape_steps (hexadecimal1 n) escape of lists b h =
-    at_escape (hexadecimal1 n) (hexadecimal1 (digit_value h.0)) escape (92 ∷ 120 ∷ h.0 ∷ []) of lists b h.1 (ap hexadecimal1 h.3)
+    at_escape (hexadecimal1 n) (hexadecimal1 (digit_value h.0)) of lists b h.1 (ap hexadecimal1 h.3)
     (steps_hexadecimal1 of lists h.0 b h.2)
 escape_steps other escape of lists b h = absurd h

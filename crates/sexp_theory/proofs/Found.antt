@@ -85,35 +85,32 @@ reached limit at text gap bytes rest t h =
     ∙ found_through limit (at + length gap) 0 start t bytes rest h.3 (omega (arith, h.4))
     ∙ found_at limit (at + length gap) t rest (0 + length bytes) (length bytes) (omega arith)
 
--- a byte ends the item
-ends_with_byte : (limit at : ℕ) (text gap bytes : List ℕ) (b : ℕ) (rest : List ℕ) (t : State) (v : Value)
-    → ReadTo limit text gap bytes (b ∷ rest) t → length bytes < limit
-    → is_behind t b ≡ false → step t b ≡ whole v → found limit at text ≡ value v (at + length gap) (at + length gap + length bytes + 1)
-ends_with_byte limit at text gap bytes b rest t v h l out e =
-    reached limit at text gap bytes (b ∷ rest) t h
-    ∙ found_next limit (at + length gap) (length bytes) t b rest (has_room limit (length bytes) (not (is_behind t b)) l)
-    ∙ ap (found_by limit (at + length gap) (length bytes) t b rest) e
-    ∙ ap (λ c. value v (at + length gap) (if c then at + length gap + length bytes else at + length gap + length bytes + 1)) out
+module _ (limit at : ℕ) (text gap bytes : List ℕ) (b : ℕ) (rest : List ℕ) (t : State) (h : ReadTo limit text gap bytes (b ∷ rest) t) where
+  -- a byte ends the item
+  ends_with_byte : (v : Value) → length bytes < limit → is_behind t b ≡ false → step t b ≡ whole v
+      → found limit at text ≡ value v (at + length gap) (at + length gap + length bytes + 1)
+  ends_with_byte v l out e =
+      reached limit at text gap bytes (b ∷ rest) t h
+      ∙ found_next limit (at + length gap) (length bytes) t b rest (has_room limit (length bytes) (not (is_behind t b)) l)
+      ∙ ap (found_by limit (at + length gap) (length bytes) t b rest) e
+      ∙ ap (λ c. value v (at + length gap) (if c then at + length gap + length bytes else at + length gap + length bytes + 1)) out
 
--- the byte behind the item ends it
-ends_before_byte : (limit at : ℕ) (text gap bytes : List ℕ) (b : ℕ) (rest : List ℕ) (t : State) (v : Value)
-    → ReadTo limit text gap bytes (b ∷ rest) t
-    → is_behind t b ≡ true → step t b ≡ whole v → found limit at text ≡ value v (at + length gap) (at + length gap + length bytes)
-ends_before_byte limit at text gap bytes b rest t v h out e =
-    reached limit at text gap bytes (b ∷ rest) t h
-    ∙ found_next limit (at + length gap) (length bytes) t b rest
-    (and_left (not (is_behind t b)) (nat_le limit (length bytes)) (not_from_true (is_behind t b) out))
-    ∙ ap (found_by limit (at + length gap) (length bytes) t b rest) e
-    ∙ ap (λ c. value v (at + length gap) (if c then at + length gap + length bytes else at + length gap + length bytes + 1)) out
+  -- the byte behind the item ends it
+  ends_before_byte : (v : Value) → is_behind t b ≡ true → step t b ≡ whole v
+      → found limit at text ≡ value v (at + length gap) (at + length gap + length bytes)
+  ends_before_byte v out e =
+      reached limit at text gap bytes (b ∷ rest) t h
+      ∙ found_next limit (at + length gap) (length bytes) t b rest
+      (and_left (not (is_behind t b)) (nat_le limit (length bytes)) (not_from_true (is_behind t b) out))
+      ∙ ap (found_by limit (at + length gap) (length bytes) t b rest) e
+      ∙ ap (λ c. value v (at + length gap) (if c then at + length gap + length bytes else at + length gap + length bytes + 1)) out
 
--- a byte shows a bad place
-shows_bad : (limit at : ℕ) (text gap bytes : List ℕ) (b : ℕ) (rest : List ℕ) (t : State) (kind : BadKind) (back : ℕ)
-    → ReadTo limit text gap bytes (b ∷ rest) t
-    → (not (is_behind t b) && nat_le limit (length bytes)) ≡ false → step t b ≡ shown kind back
-    → found limit at text ≡ bad kind (at + length gap + length bytes - back)
-shows_bad limit at text gap bytes b rest t kind back h room e =
-    reached limit at text gap bytes (b ∷ rest) t h ∙ found_next limit (at + length gap) (length bytes) t b rest room
-    ∙ ap (found_by limit (at + length gap) (length bytes) t b rest) e
+  -- a byte shows a bad place
+  shows_bad : (kind : BadKind) (back : ℕ) → (not (is_behind t b) && nat_le limit (length bytes)) ≡ false → step t b ≡ shown kind back
+      → found limit at text ≡ bad kind (at + length gap + length bytes - back)
+  shows_bad kind back room e =
+      reached limit at text gap bytes (b ∷ rest) t h ∙ found_next limit (at + length gap) (length bytes) t b rest room
+      ∙ ap (found_by limit (at + length gap) (length bytes) t b rest) e
 
 bad_there : (kind : BadKind) (x y : ℕ) → x ≡ y → bad kind x ≡ bad kind y
 bad_there kind x y e = ap (bad kind) e
@@ -123,15 +120,6 @@ bad_there kind x y e = ap (bad kind) e
 value_there : (v : Value) (a b c d : ℕ) → a ≡ c → b ≡ d → value v a b ≡ value v c d
 value_there v a b c d e k = λ i. value v (e i) (k i)
 
-is_run : (limit at : ℕ) (text gap own : List ℕ) (rest : List ℕ) → text ≡ gap ++ (own ++ rest) → IsGap gap → IsRun own → rest ≢ []
-    → Parts own rest → length own ≤ limit
-    → found limit at text ≡ value (atom own) (at + length gap) (at + length gap + length own)
-is_run limit at text gap own [] e g r some parts l = absurd (some refl)
-is_run limit at text gap own (b ∷ rest) e g r some parts l =
-    ends_before_byte limit at text gap own b rest (running own []) (atom own) (e, g, run_starts own r, run_through own [] r, l)
-    (and_from (is_outer_run (run_mode (last 32 own)) []) (is_delimiter b) (outer_run (last 32 own)) (not-false (is_delimiter b) parts.0))
-    (run_ends own [] b parts.0 (no_semicolon own b rest parts))
-
 with_last : (text gap own bytes rest : List ℕ) (b : ℕ) → text ≡ gap ++ (own ++ rest) → own ≡ bytes ++ b ∷ []
     → text ≡ gap ++ (bytes ++ b ∷ rest)
 with_last text gap own bytes rest b e k = e ∙ ap (λ xs. gap ++ (xs ++ rest)) k ∙ ap (λ xs. gap ++ xs) (append_assoc bytes (b ∷ []) rest)
@@ -139,48 +127,53 @@ with_last text gap own bytes rest b e k = e ∙ ap (λ xs. gap ++ (xs ++ rest)) 
 length_last : (own bytes : List ℕ) (b : ℕ) → own ≡ bytes ++ b ∷ [] → length own ≡ length bytes + 1
 length_last own bytes b k = ap length k ∙ length-append bytes (b ∷ [])
 
-is_quoted : (limit at : ℕ) (text gap own rest inner of : List ℕ) → text ≡ gap ++ (own ++ rest) → IsGap gap → own ≡ 34 ∷ (inner ++ 34 ∷ [])
-    → AreBytes inner of → length own ≤ limit
-    → found limit at text ≡ value (atom of) (at + length gap) (at + length gap + length own)
-is_quoted limit at text gap own rest inner of e g k are l =
-    let more = length_last own (34 ∷ inner) 34 k in
-    ends_with_byte limit at text gap (34 ∷ inner) 34 rest (quoting of []) (atom of) (
-      with_last text gap own (34 ∷ inner) rest 34 e k,
-      g,
-      (34, inner, refl, refl, refl),
-      bytes_through inner of [] [] are,
-      omega (arith, l, more),
-    ) (omega (arith, l, more)) refl refl
-    ∙ value_there (atom of) _ _ _ _ refl (omega (arith, more))
+module _ (limit at : ℕ) (text gap own : List ℕ) (g : IsGap gap) (l : length own ≤ limit) where
+  is_run : (rest : List ℕ) → text ≡ gap ++ (own ++ rest) → IsRun own → rest ≢ [] → Parts own rest
+      → found limit at text ≡ value (atom own) (at + length gap) (at + length gap + length own)
+  is_run [] e r some parts = absurd (some refl)
+  is_run (b ∷ rest) e r some parts =
+      ends_before_byte limit at text gap own b rest (running own []) (e, g, run_starts own r, run_through own [] r, l) (atom own)
+      (and_from (is_outer_run (run_mode (last 32 own)) []) (is_delimiter b) (outer_run (last 32 own)) (not-false (is_delimiter b) parts.0))
+      (run_ends own [] b parts.0 (no_semicolon own b rest parts))
 
-is_list : (limit at : ℕ) (text gap own rest inner : List ℕ) (vs : Values) → text ≡ gap ++ (own ++ rest) → IsGap gap
-    → own ≡ 40 ∷ (inner ++ 41 ∷ []) → SpellAll inner vs
-    → nesting (list vs) ≤ most_lists → length own ≤ limit
-    → found limit at text ≡ value (list vs) (at + length gap) (at + length gap + length own)
-is_list limit at text gap own rest inner vs e g k s room l =
-    let more = length_last own (40 ∷ inner) 41 k in
-    let r = all_stand vs inner [] [] s (omega (arith, room)) in
-    ends_with_byte limit at text gap (40 ∷ inner) 41 rest r.0 (list (values (listed vs))) (
-      with_last text gap own (40 ∷ inner) rest 41 e k,
-      g,
-      (40, inner, refl, refl, refl),
-      r.1,
-      omega (arith, l, more),
-    ) (omega (arith, l, more))
-    (and_left (is_outer_run r.0.mode r.0.lists) (is_delimiter 41)
-    (no_outer_run r.0.mode r.0.lists 0 (settled_length inner r.0 (listed vs ∷ []) r.2)))
-    (settled_step inner r.0 (listed vs ∷ []) 41 [] r.2 (seam_delimiter inner 41 [] refl (λ i. absurd (omega (arith, i)))))
-    ∙ ap (λ ws. value (list ws) (at + length gap) (at + length gap + length (40 ∷ inner) + 1)) (values_listed vs)
-    ∙ value_there (list vs) _ _ _ _ refl (omega (arith, more))
+  module _ (rest : List ℕ) (e : text ≡ gap ++ (own ++ rest)) where
+    is_quoted : (inner of : List ℕ) → own ≡ 34 ∷ (inner ++ 34 ∷ []) → AreBytes inner of
+        → found limit at text ≡ value (atom of) (at + length gap) (at + length gap + length own)
+    is_quoted inner of k are =
+        let more = length_last own (34 ∷ inner) 34 k in
+        ends_with_byte limit at text gap (34 ∷ inner) 34 rest (quoting of []) (
+          with_last text gap own (34 ∷ inner) rest 34 e k,
+          g,
+          (34, inner, refl, refl, refl),
+          bytes_through inner of [] [] are,
+          omega (arith, l, more),
+        ) (atom of) (omega (arith, l, more)) refl refl
+        ∙ value_there (atom of) _ _ _ _ refl (omega (arith, more))
 
-is_value : (limit at : ℕ) (text gap own rest : List ℕ) (v : Value) → text ≡ gap ++ (own ++ rest) → IsGap gap → Spells own v
-    → (IsRun own → rest ≢ []) → Ends own rest → nesting v ≤ most_lists
-    → length own ≤ limit → found limit at text ≡ value v (at + length gap) (at + length gap + length own)
-is_value limit at text gap own rest (atom of) e g (inl h) some ends room l =
-    is_run limit at text gap own rest e g h.0 (some h.0) (ends h.0) l
-    ∙ ap (λ xs. value (atom xs) (at + length gap) (at + length gap + length own)) h.1
-is_value limit at text gap own rest (atom of) e g (inr h) some ends room l = is_quoted limit at text gap own rest h.0 of e g h.1 h.2 l
-is_value limit at text gap own rest (list vs) e g h some ends room l = is_list limit at text gap own rest h.0 vs e g h.1 h.2 room l
+    is_list : (inner : List ℕ) (vs : Values) → own ≡ 40 ∷ (inner ++ 41 ∷ []) → SpellAll inner vs → nesting (list vs) ≤ most_lists
+        → found limit at text ≡ value (list vs) (at + length gap) (at + length gap + length own)
+    is_list inner vs k s room =
+        let more = length_last own (40 ∷ inner) 41 k in
+        let r = all_stand vs inner [] [] s (omega (arith, room)) in
+        ends_with_byte limit at text gap (40 ∷ inner) 41 rest r.0 (
+          with_last text gap own (40 ∷ inner) rest 41 e k,
+          g,
+          (40, inner, refl, refl, refl),
+          r.1,
+          omega (arith, l, more),
+        ) (list (values (listed vs))) (omega (arith, l, more))
+        (and_left (is_outer_run r.0.mode r.0.lists) (is_delimiter 41)
+        (no_outer_run r.0.mode r.0.lists 0 (settled_length inner r.0 (listed vs ∷ []) r.2)))
+        (settled_step inner r.0 (listed vs ∷ []) 41 [] r.2 (seam_delimiter inner 41 [] refl (λ i. absurd (omega (arith, i)))))
+        ∙ ap (λ ws. value (list ws) (at + length gap) (at + length gap + length (40 ∷ inner) + 1)) (values_listed vs)
+        ∙ value_there (list vs) _ _ _ _ refl (omega (arith, more))
+
+    is_value : (v : Value) → Spells own v → (IsRun own → rest ≢ []) → Ends own rest → nesting v ≤ most_lists
+        → found limit at text ≡ value v (at + length gap) (at + length gap + length own)
+    is_value (atom of) (inl h) some ends room = is_run rest e h.0 (some h.0) (ends h.0)
+        ∙ ap (λ xs. value (atom xs) (at + length gap) (at + length gap + length own)) h.1
+    is_value (atom of) (inr h) some ends room = is_quoted h.0 of h.1 h.2
+    is_value (list vs) h some ends room = is_list h.0 vs h.1 h.2 room
 
 -- ---- bad places
 
@@ -197,107 +190,107 @@ not_behind false d h k = refl
 not_behind true false h k = refl
 not_behind true true h k = h (λ r. true≢false (sym (k r)))
 
-is_hash : (limit at n : ℕ) (text gap bytes rest before own front : List ℕ) (b : ℕ) → text ≡ gap ++ (bytes ++ b ∷ rest) → IsGap gap
-    → IsInRun n bytes before own → bytes ≡ front ++ 35 ∷ []
-    → (b ≡ 59) ⊎ (b ≡ 124) → length bytes < limit → found limit at text ≡ bad HashBar (at + length gap + length front)
-is_hash limit at n text gap bytes rest before own front b e g h k is l =
-    let r = run_reached n bytes before own h in
-    shows_bad limit at text gap bytes b rest (running own r.0) HashBar 1 (
-      e,
-      g,
-      unfinished_starts bytes (in_run n before own h),
-      r.1,
-      omega (arith, l),
-    ) (has_room limit (length bytes) (not (is_behind (running own r.0) b)) l)
-    (shows_hash own r.0 b (run_hash bytes before own front h.spelled h.is_run k) is)
-    ∙ bad_there HashBar _ _ (omega (arith, ap length k, length-append front (35 ∷ [])))
+module _ (limit at : ℕ) (text gap bytes rest : List ℕ) (b : ℕ) (e : text ≡ gap ++ (bytes ++ b ∷ rest)) (g : IsGap gap) where
+  is_hash : (n : ℕ) (before own front : List ℕ) → IsInRun n bytes before own → bytes ≡ front ++ 35 ∷ [] → (b ≡ 59) ⊎ (b ≡ 124)
+      → length bytes < limit → found limit at text ≡ bad HashBar (at + length gap + length front)
+  is_hash n before own front h k is l =
+      let r = run_reached n bytes before own h in
+      shows_bad limit at text gap bytes b rest (running own r.0) (
+        e,
+        g,
+        unfinished_starts bytes (in_run n before own h),
+        r.1,
+        omega (arith, l),
+      ) HashBar 1 (has_room limit (length bytes) (not (is_behind (running own r.0) b)) l)
+      (shows_hash own r.0 b (run_hash bytes before own front h.spelled h.is_run k) is)
+      ∙ bad_there HashBar _ _ (omega (arith, ap length k, length-append front (35 ∷ [])))
 
-is_bad : (limit at : ℕ) (text gap bytes rest : List ℕ) (b : ℕ) (kind : BadKind) (behind : ℕ) → text ≡ gap ++ (bytes ++ b ∷ rest)
-    → IsGap gap → Shows limit bytes b kind behind
-    → found limit at text ≡ bad kind (at + length gap + behind)
-is_bad limit at text gap bytes rest b kind behind e g (stray_close none is l) =
-    ap (found limit at) (e ∙ ap (λ xs. gap ++ (xs ++ b ∷ rest)) none ∙ ap (λ c. gap ++ c ∷ rest) is) ∙ found_gap limit at gap (41 ∷ rest) g
-    ∙ found_next limit (at + length gap) 0 start 41 rest (has_room limit 0 (not (is_behind start 41)) l)
-    ∙ bad_there StrayClose _ _ (omega arith)
-is_bad limit at text gap bytes rest b kind behind e g (too_deep h is l) =
-    let r = open_through most_lists bytes h in
-    shows_bad limit at text gap bytes b rest r.0 TooDeep 0 (
-      e,
-      g,
-      open_starts 255 bytes h,
-      r.2,
-      omega (arith, l),
-    ) (has_room limit (length bytes) (not (is_behind r.0 b)) l)
-    (ap (step r.0) is ∙ settled_step bytes r.0 r.1 40 [] r.3 (seam_delimiter bytes 40 [] refl (λ k. absurd (omega (arith, k))))
-    ∙ too_many_lists r.1 (omega (arith, r.4)))
-    ∙ bad_there TooDeep _ _ (omega arith)
-is_bad limit at text gap bytes rest b kind behind e g (hash_bar n before own front h k is l) =
-    is_hash limit at n text gap bytes rest before own front b e g h k (inr is) l
-is_bad limit at text gap bytes rest b kind behind e g (hash_comment n before own front h k is l) =
-    is_hash limit at (suc n) text gap bytes rest before own front b e g h k (inl is) l
-is_bad limit at text gap bytes rest b kind behind e g (outer_hash_comment front r k is l) =
-    shows_bad limit at text gap bytes b rest (running bytes []) HashBar 1 (e, g, run_starts bytes r, run_through bytes [] r, l)
-    (and_left _ _ (not_from_true _ (and_from (is_outer_run (run_mode (last 32 bytes)) []) (is_delimiter b) (outer_run (last 32 bytes))
-    (ap is_delimiter is))))
-    (shows_hash bytes [] b (run_hash bytes [] bytes front refl r k) (inl is))
-    ∙ bad_there HashBar _ _ (omega (arith, ap length k, length-append front (35 ∷ [])))
-is_bad limit at text gap bytes rest b kind behind e g (bad_escape n front escape h no_more no_byte l) =
-    let m = escape_mode escape h.begun in let r = escape_reached n bytes front escape h m.0 m.1 in
-    shows_bad limit at text gap bytes b rest (at_mode m.0 h.in_quotes.of r.0) BadEscape (length escape) (
-      e,
-      g,
-      unfinished_starts bytes (in_escape n front escape h),
-      r.1,
-      omega (arith, l),
-    ) (has_room limit (length bytes) (not (is_behind (at_mode m.0 h.in_quotes.of r.0) b)) l)
-    (go m.0 r.0 (escape_steps m.0 escape h.in_quotes.of r.0 b m.1))
-    ∙ bad_there BadEscape _ _ (omega (arith, ap length h.spelled, length-append front escape))
-  where
-    go : (m : Mode) (lists : List (List Value)) → EscapeStep m escape h.in_quotes.of lists b
-        → step (at_mode m h.in_quotes.of lists) b ≡ shown BadEscape (length escape)
-    go m lists (inl y) = absurd (no_byte y.0 y.1)
-    go m lists (inr (inl y)) = absurd (no_more (mode_begins y.0 (escape ++ b ∷ []) y.1))
-    go m lists (inr (inr y)) = y.0
-is_bad limit at text gap bytes rest b kind behind e g (too_long u plain full) =
-    let r = unfinished_stands bytes u in
-    reached limit at text gap bytes (b ∷ rest) r.0 (e, g, unfinished_starts bytes u, r.1, omega (arith, full))
-    ∙ ap (λ c. if c then bad TooLong (at + length gap + length bytes) else found_by limit (at + length gap) (length bytes) r.0 b rest
-    (step r.0 b))
-    (and_from _ _ (not_from_false _ (not_behind (is_outer_run r.0.mode r.0.lists) (is_delimiter b) r.2 plain))
-    (le-leb limit (length bytes) (omega (arith, full))))
-    ∙ bad_there TooLong _ _ (omega (arith, full))
+  is_bad : (kind : BadKind) (behind : ℕ) → Shows limit bytes b kind behind → found limit at text ≡ bad kind (at + length gap + behind)
+  is_bad kind behind (stray_close none is l) =
+      ap (found limit at) (e ∙ ap (λ xs. gap ++ (xs ++ b ∷ rest)) none ∙ ap (λ c. gap ++ c ∷ rest) is)
+      ∙ found_gap limit at gap (41 ∷ rest) g
+      ∙ found_next limit (at + length gap) 0 start 41 rest (has_room limit 0 (not (is_behind start 41)) l)
+      ∙ bad_there StrayClose _ _ (omega arith)
+  is_bad kind behind (too_deep h is l) =
+      let r = open_through most_lists bytes h in
+      shows_bad limit at text gap bytes b rest r.0 (
+        e,
+        g,
+        open_starts 255 bytes h,
+        r.2,
+        omega (arith, l),
+      ) TooDeep 0 (has_room limit (length bytes) (not (is_behind r.0 b)) l)
+      (ap (step r.0) is ∙ settled_step bytes r.0 r.1 40 [] r.3 (seam_delimiter bytes 40 [] refl (λ k. absurd (omega (arith, k))))
+      ∙ too_many_lists r.1 (omega (arith, r.4)))
+      ∙ bad_there TooDeep _ _ (omega arith)
+  is_bad kind behind (hash_bar n before own front h k is l) =
+      is_hash n before own front h k (inr is) l
+  is_bad kind behind (hash_comment n before own front h k is l) =
+      is_hash (suc n) before own front h k (inl is) l
+  is_bad kind behind (outer_hash_comment front r k is l) =
+      shows_bad limit at text gap bytes b rest (running bytes []) (e, g, run_starts bytes r, run_through bytes [] r, l) HashBar 1
+      (and_left _ _ (not_from_true _ (and_from (is_outer_run (run_mode (last 32 bytes)) []) (is_delimiter b) (outer_run (last 32 bytes))
+      (ap is_delimiter is))))
+      (shows_hash bytes [] b (run_hash bytes [] bytes front refl r k) (inl is))
+      ∙ bad_there HashBar _ _ (omega (arith, ap length k, length-append front (35 ∷ [])))
+  is_bad kind behind (bad_escape n front escape h no_more no_byte l) =
+      let m = escape_mode escape h.begun in let r = escape_reached n bytes front escape h m.0 m.1 in
+      shows_bad limit at text gap bytes b rest (at_mode m.0 h.in_quotes.of r.0) (
+        e,
+        g,
+        unfinished_starts bytes (in_escape n front escape h),
+        r.1,
+        omega (arith, l),
+      ) BadEscape (length escape) (has_room limit (length bytes) (not (is_behind (at_mode m.0 h.in_quotes.of r.0) b)) l)
+      (go m.0 r.0 (escape_steps m.0 escape h.in_quotes.of r.0 b m.1))
+      ∙ bad_there BadEscape _ _ (omega (arith, ap length h.spelled, length-append front escape))
+    where
+      go : (m : Mode) (lists : List (List Value)) → EscapeStep m escape h.in_quotes.of lists b
+          → step (at_mode m h.in_quotes.of lists) b ≡ shown BadEscape (length escape)
+      go m lists (inl y) = absurd (no_byte y.0 y.1)
+      go m lists (inr (inl y)) = absurd (no_more (mode_begins y.0 (escape ++ b ∷ []) y.1))
+      go m lists (inr (inr y)) = y.0
+  is_bad kind behind (too_long u plain full) =
+      let r = unfinished_stands bytes u in
+      reached limit at text gap bytes (b ∷ rest) r.0 (e, g, unfinished_starts bytes u, r.1, omega (arith, full))
+      ∙ ap (λ c. if c then bad TooLong (at + length gap + length bytes) else found_by limit (at + length gap) (length bytes) r.0 b rest
+      (step r.0 b))
+      (and_from _ _ (not_from_false _ (not_behind (is_outer_run r.0.mode r.0.lists) (is_delimiter b) r.2 plain))
+      (le-leb limit (length bytes) (omega (arith, full))))
+      ∙ bad_there TooLong _ _ (omega (arith, full))
 
 -- ---- what stands first
 
-is_unfinished : (limit at : ℕ) (text gap bytes : List ℕ) → text ≡ gap ++ bytes → IsGap gap → IsUnfinished bytes → (IsRun bytes → ⊥)
-    → length bytes ≤ limit → found limit at text ≡ unfinished (at + length gap)
-is_unfinished limit at text gap bytes e g u other l =
-    let r = unfinished_stands bytes u in
-    reached limit at text gap bytes [] r.0 (e ∙ ap (λ xs. gap ++ xs) (sym (append-nil bytes)), g, unfinished_starts bytes u, r.1, l)
-    ∙ ap (λ c. if c then last_run r.0.atom (at + length gap) else unfinished (at + length gap)) (r.2 other)
+module _ (limit at : ℕ) (text gap : List ℕ) (g : IsGap gap) where
+  is_unfinished : (bytes : List ℕ) → text ≡ gap ++ bytes → IsUnfinished bytes → (IsRun bytes → ⊥) → length bytes ≤ limit
+      → found limit at text ≡ unfinished (at + length gap)
+  is_unfinished bytes e u other l =
+      let r = unfinished_stands bytes u in
+      reached limit at text gap bytes [] r.0 (e ∙ ap (λ xs. gap ++ xs) (sym (append-nil bytes)), g, unfinished_starts bytes u, r.1, l)
+      ∙ ap (λ c. if c then last_run r.0.atom (at + length gap) else unfinished (at + length gap)) (r.2 other)
 
-is_last_run : (limit at : ℕ) (text gap own : List ℕ) → text ≡ gap ++ own → IsGap gap → IsRun own → length own ≤ limit
-    → found limit at text ≡ last_run own (at + length gap)
-is_last_run limit at text gap own e g r l =
-    reached limit at text gap own [] (running own []) (
-      e
-          ∙ ap (λ xs. gap ++ xs) (sym (append-nil own)),
-      g,
-      run_starts own r,
-      run_through own [] r,
-      l,
-    )
-    ∙ ap (λ c. if c then last_run own (at + length gap) else unfinished (at + length gap)) (outer_run (last 32 own))
+  is_last_run : (own : List ℕ) → text ≡ gap ++ own → IsRun own → length own ≤ limit
+      → found limit at text ≡ last_run own (at + length gap)
+  is_last_run own e r l =
+      reached limit at text gap own [] (running own []) (
+        e
+            ∙ ap (λ xs. gap ++ xs) (sym (append-nil own)),
+        g,
+        run_starts own r,
+        run_through own [] r,
+        l,
+      )
+      ∙ ap (λ c. if c then last_run own (at + length gap) else unfinished (at + length gap)) (outer_run (last 32 own))
 
 pub is_found : (limit at : ℕ) (text : List ℕ) (f : Found) → IsFound limit at text f → found limit at text ≡ f
 is_found limit at text nothing (inl h) = ap (found limit at) (sym (append-nil text)) ∙ found_gap limit at text [] h
 is_found limit at text nothing (inr h) = ap (found limit at) h.2 ∙ found_gap limit at h.0 (59 ∷ h.1) h.3
     ∙ found_open_comment limit (at + length h.0) h.1 h.4
-is_found limit at text (unfinished from) h = is_unfinished limit at text h.0 h.1 h.2 h.3 h.4 h.5 h.6 ∙ ap unfinished (sym h.7)
-is_found limit at text (last_run own from) h = is_last_run limit at text h.0 own h.1 h.2 h.3 h.4 ∙ ap (last_run own) (sym h.5)
+is_found limit at text (unfinished from) h = is_unfinished limit at text h.0 h.3 h.1 h.2 h.4 h.5 h.6 ∙ ap unfinished (sym h.7)
+is_found limit at text (last_run own from) h = is_last_run limit at text h.0 h.2 own h.1 h.3 h.4 ∙ ap (last_run own) (sym h.5)
 is_found limit at text (value v from to) h =
-    is_value limit at text h.0 h.1 h.2 v h.3 h.4 h.5 h.6 h.7 h.8 h.9 ∙ value_there v _ _ _ _ (sym h.10) (omega (arith, h.10, h.11))
-is_found limit at text (bad kind offset) h = is_bad limit at text h.0 h.1 h.2 h.3 kind h.4 h.5 h.6 h.7 ∙ ap (bad kind) (sym h.8)
+    is_value limit at text h.0 h.1 h.4 h.9 h.2 h.3 v h.5 h.6 h.7 h.8 ∙ value_there v _ _ _ _ (sym h.10) (omega (arith, h.10, h.11))
+is_found limit at text (bad kind offset) h = is_bad limit at text h.0 h.1 h.2 h.3 h.5 h.6 kind h.4 h.7 ∙ ap (bad kind) (sym h.8)
 
 pub is_found_behind_line : (limit at : ℕ) (text : List ℕ) (f : Found) → IsFoundBehindLine limit at text f
     → found_behind_line limit at text ≡ f

@@ -6,17 +6,18 @@ use Rattle.sexp_theory.specs.Values.{Value}
 use Rattle.sexp_theory.specs.Places.{value}
 use Rattle.sexp_theory.specs.Machine.{State, on, whole, step, is_behind, found_from}
 
-pub one_step : (limit from n b : ℕ) (s t : State) (rest : List ℕ) → is_behind s b ≡ false → step s b ≡ on t → n < limit
-    → found_from limit from n s (b ∷ rest) ≡ found_from limit from (n + 1) t rest
-one_step limit from n b s t rest inside e h =
-    let free : nat_le limit n ≡ false = lt-leb limit n h in
-    rw (inside, free, e) refl
+module _ (limit from n b : ℕ) (s : State) where
+  pub one_step : (t : State) (rest : List ℕ) → is_behind s b ≡ false → step s b ≡ on t → n < limit
+      → found_from limit from n s (b ∷ rest) ≡ found_from limit from (n + 1) t rest
+  one_step t rest inside e h =
+      let free : nat_le limit n ≡ false = lt-leb limit n h in
+      rw (inside, free, e) refl
 
-pub last_step : (limit from n b : ℕ) (s : State) (v : Value) (rest : List ℕ) → is_behind s b ≡ false → step s b ≡ whole v → n < limit
-    → found_from limit from n s (b ∷ rest) ≡ value v from (from + n + 1)
-last_step limit from n b s v rest inside e h =
-    let free : nat_le limit n ≡ false = lt-leb limit n h in
-    rw (inside, free, e, inside) refl
+  pub last_step : (v : Value) (rest : List ℕ) → is_behind s b ≡ false → step s b ≡ whole v → n < limit
+      → found_from limit from n s (b ∷ rest) ≡ value v from (from + n + 1)
+  last_step v rest inside e h =
+      let free : nat_le limit n ≡ false = lt-leb limit n h in
+      rw (inside, free, e, inside) refl
 
 -- over the bytes the machine comes from a state to another
 abbrev pub Goes : State → List ℕ → State → Type 0

@@ -114,29 +114,25 @@ pub opened_most : (lists : List (List Value)) (bytes : List ℕ) → Opened byte
 opened_most [] bytes h = omega arith
 opened_most (us ∷ ls) bytes h = omega (arith, h.5)
 
-push_all : (bytes more : List ℕ) (us ws : List Value) (ls : List (List Value)) → Opened bytes (us ∷ ls) → SpellAll more (values ws)
-    → Seam bytes more → nesting_of_all (values ws) + suc (length ls) ≤ most_lists
-    → Opened (bytes ++ more) ((us ++ ws) ∷ ls)
-push_all bytes more us ws ls h k s room = (
-  h.0,
-  h.1 ++ more,
-  ap (λ xs. xs ++ more) h.2 ∙ append_assoc h.0 (40 ∷ h.1) more,
-  h.3,
-  subst (SpellAll (h.1 ++ more)) (sym (values_append us ws))
-      (spell_append (values us) (values ws) h.1 more h.4 k
-      (λ front run e r. s (h.0 ++ 40 ∷ front) run (h.2 ∙ ap (λ xs. h.0 ++ 40 ∷ xs) e ∙ sym (append_assoc h.0 (40 ∷ front) run)) r)),
-  omega (arith, h.5, room, nesting_joined (values us) (values ws), ap nesting_of_all (values_append us ws)),
-)
+module _ (bytes more : List ℕ) (us : List Value) (ls : List (List Value)) (h : Opened bytes (us ∷ ls)) (s : Seam bytes more) where
+  push_all : (ws : List Value) → SpellAll more (values ws) → nesting_of_all (values ws) + suc (length ls) ≤ most_lists
+      → Opened (bytes ++ more) ((us ++ ws) ∷ ls)
+  push_all ws k room = (
+    h.0,
+    h.1 ++ more,
+    ap (λ xs. xs ++ more) h.2 ∙ append_assoc h.0 (40 ∷ h.1) more,
+    h.3,
+    subst (SpellAll (h.1 ++ more)) (sym (values_append us ws))
+        (spell_append (values us) (values ws) h.1 more h.4 k
+        (λ front run e r. s (h.0 ++ 40 ∷ front) run (h.2 ∙ ap (λ xs. h.0 ++ 40 ∷ xs) e ∙ sym (append_assoc h.0 (40 ∷ front) run)) r)),
+    omega (arith, h.5, room, nesting_joined (values us) (values ws), ap nesting_of_all (values_append us ws)),
+  )
 
-pub push_value : (bytes own : List ℕ) (v : Value) (us : List Value) (ls : List (List Value)) → Opened bytes (us ∷ ls) → Spells own v
-    → Seam bytes own → nesting v + suc (length ls) ≤ most_lists
-    → Opened (bytes ++ own) ((us ++ v ∷ []) ∷ ls)
-push_value bytes own v us ls h k s room = push_all bytes own us (v ∷ []) ls h (spell_one own v k) s (omega (arith, room))
+  pub push_value : (v : Value) → Spells more v → nesting v + suc (length ls) ≤ most_lists → Opened (bytes ++ more) ((us ++ v ∷ []) ∷ ls)
+  push_value v k room = push_all (v ∷ []) (spell_one more v k) (omega (arith, room))
 
-pub push_gap : (bytes gap : List ℕ) (us : List Value) (ls : List (List Value)) → Opened bytes (us ∷ ls) → IsGap gap → Seam bytes gap
-    → Opened (bytes ++ gap) (us ∷ ls)
-push_gap bytes gap us ls h g s = subst (λ ws. Opened (bytes ++ gap) (ws ∷ ls)) (append-nil us)
-    (push_all bytes gap us [] ls h g s (omega (arith, h.5)))
+  pub push_gap : IsGap more → Opened (bytes ++ more) (us ∷ ls)
+  push_gap g = subst (λ ws. Opened (bytes ++ more) (ws ∷ ls)) (append-nil us) (push_all [] g (omega (arith, h.5)))
 
 pub open_more : (bytes : List ℕ) (lists : List (List Value)) → Opened bytes lists → length lists < most_lists
     → Opened (bytes ++ 40 ∷ []) ([] ∷ lists)

@@ -61,14 +61,13 @@ kept_run bytes own lists h = go (cases_eq (last 32 own) 35)
     go (inl e) = subst (λ c. At (if c then hash else run) bytes own lists) (sym (eq-eqb (last 32 own) 35 e)) (h, e)
     go (inr n) = subst (λ c. At (if c then hash else run) bytes own lists) (sym (ne_eqb (last 32 own) 35 n)) (h, n)
 
-pub kept_escape : (m : Mode) (bytes of front escape : List ℕ) (lists : List (List Value)) → bytes ≡ front ++ escape
-    → InQuotes front of lists → IsEscape escape m → At m bytes of lists
-kept_escape escaped bytes of front escape lists e q h = (front, escape, e, q, h)
-kept_escape (decimal1 n) bytes of front escape lists e q h = (front, escape, e, q, h)
-kept_escape (decimal2 n) bytes of front escape lists e q h = (front, escape, e, q, h)
-kept_escape hexadecimal0 bytes of front escape lists e q h = (front, escape, e, q, h)
-kept_escape (hexadecimal1 n) bytes of front escape lists e q h = (front, escape, e, q, h)
-kept_escape other bytes of front escape lists e q h = absurd h
+pub kept_escape : (m : Mode) (bytes of : List ℕ) (lists : List (List Value)) → InEscape m bytes of lists → At m bytes of lists
+kept_escape escaped bytes of lists h = h
+kept_escape (decimal1 n) bytes of lists h = h
+kept_escape (decimal2 n) bytes of lists h = h
+kept_escape hexadecimal0 bytes of lists h = h
+kept_escape (hexadecimal1 n) bytes of lists h = h
+kept_escape other bytes of lists h = absurd h.4
 
 -- ---- in the words of the format
 
@@ -113,27 +112,38 @@ by_test P false x y h k = k refl
 shows_at : (limit : ℕ) (bytes : List ℕ) (b : ℕ) (kind : BadKind) (m n : ℕ) → m ≡ n → Shows limit bytes b kind m → Shows limit bytes b kind n
 shows_at limit bytes b kind m n e h = subst (λ k. Shows limit bytes b kind k) e h
 
+-- the byte is the last of a value, which begins with a delimiter `first` behind bytes that these lists are open after
+record LastOf (lists : List (List Value)) (bytes : List ℕ) (b : ℕ) (v : Value) : Type 0 where
+  before : List ℕ
+  first : ℕ
+  rest : List ℕ
+  spelled : bytes ++ b ∷ [] ≡ before ++ first ∷ rest
+  opened : Opened before lists
+  spells : Spells (first ∷ rest) v
+  no_run : is_plain first ≡ false
+  apart : Apart before first
+  room : nesting v + length lists ≤ most_lists
+  ends : is_plain b ≡ false
+
 -- a value that ends with the byte
-value_good : (lists : List (List Value)) (before own bytes : List ℕ) (b c : ℕ) (rest : List ℕ) (v : Value)
-    → bytes ++ b ∷ [] ≡ before ++ own → Opened before lists → Spells own v
-    → own ≡ c ∷ rest → is_plain c ≡ false → Apart before c → nesting v + length lists ≤ most_lists → is_plain b ≡ false
+value_good : (lists : List (List Value)) (bytes : List ℕ) (b : ℕ) (v : Value) → LastOf lists bytes b v
     → Good bytes b false (ends_value v lists)
-value_good [] before own bytes b c rest v e o s k p a room q =
-    let same : bytes ++ b ∷ [] ≡ own = e ∙ ap (λ xs. xs ++ own) o in (
-      omega (arith, room),
+value_good [] bytes b v h =
+    let same : bytes ++ b ∷ [] ≡ h.first ∷ h.rest = h.spelled ∙ ap (λ xs. xs ++ h.first ∷ h.rest) h.opened in (
+      omega (arith, h.room),
       (
-        subst (λ xs. Spells xs v) (sym same) s,
-        λ r. true≢false (sym (All-head (λ d. is_plain d ≡ true) c rest (subst (AllPass is_plain) (same ∙ k) r.plain)) ∙ p),
+        subst (λ xs. Spells xs v) (sym same) h.spells,
+        λ r. true≢false (sym (All-head (λ d. is_plain d ≡ true) h.first h.rest (subst (AllPass is_plain) same r.plain)) ∙ h.no_run),
       ),
     )
-value_good (us ∷ ls) before own bytes b c rest v e o s k p a room q = (
+value_good (us ∷ ls) bytes b v h = (
   refl,
   (
     refl,
-    subst (λ xs. Opened xs ((us ++ v ∷ []) ∷ ls)) (sym e)
-        (push_value before own v us ls o s (subst (λ xs. (front run : List ℕ) → before ≡ front ++ run → IsRun run
-        → Parts run xs) (sym k) (seam_apart before c rest a)) (omega (arith, room))),
-    ends_whole bytes b q,
+    subst (λ xs. Opened xs ((us ++ v ∷ []) ∷ ls)) (sym h.spelled)
+        (push_value h.before (h.first ∷ h.rest) us ls h.opened (seam_apart h.before h.first h.rest h.apart) v h.spells
+        (omega (arith, h.room))),
+    ends_whole bytes b h.ends,
   ),
 )
 
@@ -148,7 +158,7 @@ blank_good : (lists : List (List Value)) (bytes : List ℕ) (b : ℕ) → Opened
 blank_good [] bytes b o a f e p = absurd (true≢false (sym e ∙ (f o).0))
 blank_good (us ∷ ls) bytes b o a f e p = (
   refl,
-  (refl, push_gap bytes (b ∷ []) us ls o (blank_gap b e) (seam_apart bytes b [] a), ends_whole bytes b p),
+  (refl, push_gap bytes (b ∷ []) us ls o (seam_apart bytes b [] a) (blank_gap b e), ends_whole bytes b p),
 )
 
 comment_good : (lists : List (List Value)) (bytes : List ℕ) (b : ℕ) → Opened bytes lists → Apart bytes b → First bytes b → b ≡ 59
@@ -188,9 +198,18 @@ close_good [] bytes b o e = (
       (stray_close o e (omega (arith, room refl))),
 )
 close_good (us ∷ ls) bytes b o e =
-    value_good ls o.0 (40 ∷ (o.1 ++ 41 ∷ [])) bytes b 40 (o.1 ++ 41 ∷ []) (list (values us))
-    (ap (λ xs. xs ++ b ∷ []) o.2 ∙ append_assoc o.0 (40 ∷ o.1) (b ∷ []) ∙ ap (λ c. o.0 ++ 40 ∷ (o.1 ++ c ∷ [])) e)
-    o.3 (o.1, refl, o.4) refl refl ((λ p. absurd (false≢true p)), (λ k. absurd (omega (arith, k)))) (omega (arith, o.5)) (ap is_plain e)
+    value_good ls bytes b (list (values us)) (record {
+      before = o.0;
+      first = 40;
+      rest = o.1 ++ 41 ∷ [];
+      spelled = ap (λ xs. xs ++ b ∷ []) o.2 ∙ append_assoc o.0 (40 ∷ o.1) (b ∷ []) ∙ ap (λ c. o.0 ++ 40 ∷ (o.1 ++ c ∷ [])) e;
+      opened = o.3;
+      spells = (o.1, refl, o.4);
+      no_run = refl;
+      apart = ((λ p. absurd (false≢true p)), (λ k. absurd (omega (arith, k))));
+      room = omega (arith, o.5);
+      ends = ap is_plain e;
+    })
 
 quote_good : (lists : List (List Value)) (bytes : List ℕ) (b : ℕ) → Opened bytes lists → b ≡ 34 → Good bytes b false (on (quoting [] lists))
 quote_good lists bytes b o e = (refl, (bytes, [], ap (λ c. bytes ++ c ∷ []) e, o, refl))
@@ -316,7 +335,7 @@ run_ends_good bytes own (us ∷ ls) b h p n =
     (run_ends own (us ∷ ls) b p n)
     (between_good ((us ++ atom own ∷ []) ∷ ls) bytes b
     (subst (λ xs. Opened xs ((us ++ atom own ∷ []) ∷ ls)) (sym h.1)
-    (push_value h.0 own (atom own) us ls h.2 (inl (h.4, refl)) (seam_whole h.0 own h.3) (omega (arith, h.2.5))))
+    (push_value h.0 own us ls h.2 (seam_whole h.0 own h.3) (atom own) (inl (h.4, refl)) (omega (arith, h.2.5))))
     ((λ q. absurd (true≢false (sym q ∙ p))), (λ e k. n (sym (own_hash bytes own (us ∷ ls) h) ∙ k) e))
     (λ none. absurd (omega (arith, ap length (sym h.1 ∙ none), length-append h.0 own, h.4.some))))
 
@@ -347,8 +366,8 @@ line_good bytes own (us ∷ ls) b none h =
         ∙ ap (λ c. h.0 ++ 59 ∷ (h.1 ++ c ∷ [])) e in (
           none,
           subst (λ xs. Opened xs (us ∷ ls)) (sym same)
-              (push_gap h.0 (59 ∷ (h.1 ++ 10 ∷ [])) us ls h.3 (comment_gap h.1 h.4)
-              (seam_apart h.0 59 (h.1 ++ 10 ∷ []) ((λ p. absurd (false≢true p)), (λ i. h.5)))),
+              (push_gap h.0 (59 ∷ (h.1 ++ 10 ∷ [])) us ls h.3
+              (seam_apart h.0 59 (h.1 ++ 10 ∷ []) ((λ p. absurd (false≢true p)), (λ i. h.5))) (comment_gap h.1 h.4)),
           ends_whole bytes b (ap is_plain e),
         )
 
@@ -394,12 +413,18 @@ quoted_good bytes of lists b h =
     ended : (b == 34) ≡ true → P (ends_value (atom of) lists)
     ended t =
         let e = eqb-true b 34 t in
-        value_good lists h.0 (34 ∷ (h.1 ++ 34 ∷ [])) bytes b 34 (h.1 ++ 34 ∷ []) (atom of)
-        (ap (λ xs. xs ++ b ∷ []) h.2 ∙ append_assoc h.0 (34 ∷ h.1) (b ∷ []) ∙ ap (λ c. h.0 ++ 34 ∷ (h.1 ++ c ∷ [])) e)
-        h.3 (inr (h.1, refl, h.4)) refl refl (
-          (λ p. absurd (false≢true p)),
-          (λ k. absurd (omega (arith, k))),
-        ) (omega (arith, quotes_room bytes of lists h)) (ap is_plain e)
+        value_good lists bytes b (atom of) (record {
+          before = h.0;
+          first = 34;
+          rest = h.1 ++ 34 ∷ [];
+          spelled = ap (λ xs. xs ++ b ∷ []) h.2 ∙ append_assoc h.0 (34 ∷ h.1) (b ∷ []) ∙ ap (λ c. h.0 ++ 34 ∷ (h.1 ++ c ∷ [])) e;
+          opened = h.3;
+          spells = inr (h.1, refl, h.4);
+          no_run = refl;
+          apart = ((λ p. absurd (false≢true p)), (λ k. absurd (omega (arith, k))));
+          room = omega (arith, quotes_room bytes of lists h);
+          ends = ap is_plain e;
+        })
 
 pub escape_good : (m : Mode) (bytes of : List ℕ) (lists : List (List Value)) (b : ℕ) → is_behind (at_mode m of lists) b ≡ false
     → InEscape m bytes of lists → GoodStep bytes b (at_mode m of lists)
@@ -421,7 +446,7 @@ escape_good m bytes of lists b out h = go (escape_steps m h.1 of lists b h.4)
       ),
     )
     go (inr (inl y)) = good_as bytes b (at_mode m of lists) false (on (at_mode y.0 of lists)) out y.2
-        (refl, kept_escape y.0 (bytes ++ b ∷ []) of h.0 (h.1 ++ b ∷ []) lists longer h.3 y.1)
+        (refl, kept_escape y.0 (bytes ++ b ∷ []) of lists (h.0, h.1 ++ b ∷ [], longer, h.3, y.1))
     go (inr (inr y)) = good_as bytes b (at_mode m of lists) false (shown BadEscape (length h.1)) out y.0 (
       omega (arith, ap length h.2, length-append h.0 h.1),
       λ limit l room. shows_at limit bytes b BadEscape (length h.0) (length bytes - length h.1)

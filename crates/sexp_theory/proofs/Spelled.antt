@@ -103,41 +103,38 @@ list_ends vs own us ls inner e room r =
     (settled_step inner r.0 (listed vs ∷ us ∷ ls) 41 [] r.2 (seam_delimiter inner 41 [] refl (λ k. absurd (omega (arith, k)))))
     ∙ ap (λ ws. on (standing ((us ++ list ws ∷ []) ∷ ls))) (values_listed vs)
 
-run_is_last : (v : Value) (vs : Values) (bytes gap own : List ℕ) (us : List Value) (ls : List (List Value)) → bytes ≡ gap ++ (own ++ [])
-    → IsGap gap → IsRun own → v ≡ atom own → vs ≡ nil
-    → AllStand (cons v vs) bytes us ls
-run_is_last v vs bytes gap own us ls e g r is none =
-    let e' : bytes ≡ gap ++ own = e ∙ ap (λ xs. gap ++ xs) (append-nil own) in (
-      running own (us ∷ ls),
-      ap (through (standing (us ∷ ls))) e' ∙ through_append (standing (us ∷ ls)) (standing (us ∷ ls)) gap own
-          (gap_through gap (us ∷ ls) g) ∙ run_through own (us ∷ ls) r,
-      inr (gap, own, us, ls, e', r, refl, ap (λ ws. (us ++ v ∷ listed ws) ∷ ls) none ∙ ap (λ w. (us ++ w ∷ []) ∷ ls) is),
-    )
+module _ (v : Value) (vs : Values) (bytes gap own : List ℕ) (us : List Value) (ls : List (List Value)) (g : IsGap gap) where
+  run_is_last : bytes ≡ gap ++ (own ++ []) → IsRun own → v ≡ atom own → vs ≡ nil → AllStand (cons v vs) bytes us ls
+  run_is_last e r is none =
+      let e' : bytes ≡ gap ++ own = e ∙ ap (λ xs. gap ++ xs) (append-nil own) in (
+        running own (us ∷ ls),
+        ap (through (standing (us ∷ ls))) e' ∙ through_append (standing (us ∷ ls)) (standing (us ∷ ls)) gap own
+            (gap_through gap (us ∷ ls) g) ∙ run_through own (us ∷ ls) r,
+        inr (gap, own, us, ls, e', r, refl, ap (λ ws. (us ++ v ∷ listed ws) ∷ ls) none ∙ ap (λ w. (us ++ w ∷ []) ∷ ls) is),
+      )
 
-value_is_next : (v : Value) (vs : Values) (bytes gap own rest : List ℕ) (us : List Value) (ls : List (List Value))
-    → bytes ≡ gap ++ (own ++ rest) → IsGap gap
-    → through (standing (us ∷ ls)) (own ++ rest) ≡ through (standing ((us ++ v ∷ []) ∷ ls)) rest
-    → AllStand vs rest (us ++ v ∷ []) ls → AllStand (cons v vs) bytes us ls
-value_is_next v vs bytes gap own rest us ls e g h ih = (
-  ih.0,
-  ap (through (standing (us ∷ ls))) e ∙ through_append (standing (us ∷ ls)) (standing (us ∷ ls)) gap (own ++ rest)
-      (gap_through gap (us ∷ ls) g) ∙ h ∙ ih.1,
-  settled_behind bytes (gap ++ own) rest ih.0 ((us ++ v ∷ listed vs) ∷ ls) (e ∙ sym (append_assoc gap own rest))
-      (settled_lists rest ih.0 ((us ++ v ∷ []) ++ listed vs) (us ++ v ∷ listed vs) ls (append_assoc us (v ∷ []) (listed vs)) ih.2),
-)
+  value_is_next : (rest : List ℕ) → bytes ≡ gap ++ (own ++ rest)
+      → through (standing (us ∷ ls)) (own ++ rest) ≡ through (standing ((us ++ v ∷ []) ∷ ls)) rest
+      → AllStand vs rest (us ++ v ∷ []) ls → AllStand (cons v vs) bytes us ls
+  value_is_next rest e h ih = (
+    ih.0,
+    ap (through (standing (us ∷ ls))) e ∙ through_append (standing (us ∷ ls)) (standing (us ∷ ls)) gap (own ++ rest)
+        (gap_through gap (us ∷ ls) g) ∙ h ∙ ih.1,
+    settled_behind bytes (gap ++ own) rest ih.0 ((us ++ v ∷ listed vs) ∷ ls) (e ∙ sym (append_assoc gap own rest))
+        (settled_lists rest ih.0 ((us ++ v ∷ []) ++ listed vs) (us ++ v ∷ listed vs) ls (append_assoc us (v ∷ []) (listed vs)) ih.2),
+  )
 
-all_behind : (v : Value) (vs : Values) (bytes gap own rest : List ℕ) (us : List Value) (ls : List (List Value))
-    → bytes ≡ gap ++ (own ++ rest) → IsGap gap → Ends own rest → SpellAll rest vs
-    → ValueEnds v own us ls → AllStand vs rest (us ++ v ∷ []) ls → AllStand (cons v vs) bytes us ls
-all_behind v vs bytes gap own rest us ls e g ends s (inl h) ih =
-    value_is_next v vs bytes gap own rest us ls e g (through_append (standing (us ∷ ls)) (standing ((us ++ v ∷ []) ∷ ls)) own rest h) ih
-all_behind v vs bytes gap own [] us ls e g ends s (inr h) ih = run_is_last v vs bytes gap own us ls e g h.0 h.1 (spell_nothing vs s)
-all_behind v vs bytes gap own (b ∷ more) us ls e g ends s (inr h) ih =
-    value_is_next v vs bytes gap own (b ∷ more) us ls e g
-    (through_append (standing (us ∷ ls)) (running own (us ∷ ls)) own (b ∷ more) (run_through own (us ∷ ls) h.0)
-    ∙ ap (λ z. proceed z (λ u. through u more)) (parted_step own us ls b more (ends h.0)
-    ∙ ap (λ w. step_between ((us ++ w ∷ []) ∷ ls) b) (sym h.1)))
-    ih
+  all_behind : (rest : List ℕ) → bytes ≡ gap ++ (own ++ rest) → Ends own rest → SpellAll rest vs → ValueEnds v own us ls
+      → AllStand vs rest (us ++ v ∷ []) ls → AllStand (cons v vs) bytes us ls
+  all_behind rest e ends s (inl h) ih =
+      value_is_next rest e (through_append (standing (us ∷ ls)) (standing ((us ++ v ∷ []) ∷ ls)) own rest h) ih
+  all_behind [] e ends s (inr h) ih = run_is_last e h.0 h.1 (spell_nothing vs s)
+  all_behind (b ∷ more) e ends s (inr h) ih =
+      value_is_next (b ∷ more) e
+      (through_append (standing (us ∷ ls)) (running own (us ∷ ls)) own (b ∷ more) (run_through own (us ∷ ls) h.0)
+      ∙ ap (λ z. proceed z (λ u. through u more)) (parted_step own us ls b more (ends h.0)
+      ∙ ap (λ w. step_between ((us ++ w ∷ []) ∷ ls) b) (sym h.1)))
+      ih
 
 mutual
   pub value_ends : (v : Value) (own : List ℕ) (us : List Value) (ls : List (List Value)) → Spells own v
@@ -154,7 +151,7 @@ mutual
     inl (ap (λ xs. standing (xs ∷ ls)) (sym (append-nil us))),
   )
   all_stand (cons v vs) bytes us ls h room =
-      all_behind v vs bytes h.0 h.1 h.2 us ls h.3 h.4 h.6 h.7 (value_ends v h.1 us ls h.5 (omega (arith, room)))
+      all_behind v vs bytes h.0 h.1 us ls h.4 h.2 h.3 h.6 h.7 (value_ends v h.1 us ls h.5 (omega (arith, room)))
       (all_stand vs h.2 (us ++ v ∷ []) ls h.7 (omega (arith, room)))
 
 -- ---- open lists

@@ -186,18 +186,18 @@ found_lies limit at text (bad kind offset) h =
     ∙ ap (λ k. length h.0 + k) (length-append h.1 (h.3 ∷ h.2)) in
     (omega (arith, h.8), omega (arith, h.8, n, shows_within limit h.1 h.3 kind h.4 h.7))
 
-lies_behind : (at at' n n' : ℕ) (f : Found) → at ≤ at' → at' + n' ≤ at + n → n' ≤ n → Lies at' n' f → Lies at n f
-lies_behind at at' n n' nothing h k l i = tt
-lies_behind at at' n n' (unfinished from) h k l i = tt
-lies_behind at at' n n' (last_run run from) h k l i = omega (arith, l, i)
-lies_behind at at' n n' (value v from to) h k l i = (omega (arith, h, i.0), omega (arith, k, i.1))
-lies_behind at at' n n' (bad kind offset) h k l i = (omega (arith, h, i.0), omega (arith, k, i.1))
+lies_behind : (at at' n n' : ℕ) (f : Found) → at ≤ at' → at' + n' ≤ at + n → Lies at' n' f → Lies at n f
+lies_behind at at' n n' nothing h k i = tt
+lies_behind at at' n n' (unfinished from) h k i = tt
+lies_behind at at' n n' (last_run run from) h k i = omega (arith, h, k, i)
+lies_behind at at' n n' (value v from to) h k i = (omega (arith, h, i.0), omega (arith, k, i.1))
+lies_behind at at' n n' (bad kind offset) h k i = (omega (arith, h, i.0), omega (arith, k, i.1))
 
 first_lies_of : (skipping : Bool) (limit at : ℕ) (text : List ℕ) (f : Found) → IsFirstOf skipping limit at text f → Lies at (length text) f
 first_lies_of true limit at text f (inl h) = subst (Lies at (length text)) (sym h.1) tt
 first_lies_of true limit at text f (inr h) =
     let n : length text ≡ length h.0 + suc (length h.1) = ap length h.2 ∙ length-append h.0 (10 ∷ h.1) in
-    lies_behind at (at + length h.0 + 1) (length text) (length h.1) f (omega arith) (omega (arith, n)) (omega (arith, n))
+    lies_behind at (at + length h.0 + 1) (length text) (length h.1) f (omega arith) (omega (arith, n))
     (found_lies limit (at + length h.0 + 1) h.1 f h.4)
 first_lies_of false limit at text f h = found_lies limit at text f h
 

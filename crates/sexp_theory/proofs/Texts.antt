@@ -125,19 +125,26 @@ cancel : (xs ys zs : List ℕ) → xs ++ ys ≡ xs ++ zs → ys ≡ zs
 cancel [] ys zs e = e
 cancel (x ∷ xs) ys zs e = let tails : xs ++ ys ≡ xs ++ zs = cc in cancel xs ys zs tails
 
+-- the texts of two values are the same with bytes behind them that part them
+record SameTexts (v w : Value) (r s : List ℕ) : Type 0 where
+  of_bytes : HasBytes v
+  of_bytes' : HasBytes w
+  parted : Parted r
+  parted' : Parted s
+  same : text v ++ r ≡ text w ++ s
+
 -- Texts with bytes behind them are the same only for the same value, with the same bytes behind it.
-one_atom : (bs cs r s : List ℕ) → All (λ b. b < 256) bs → All (λ b. b < 256) cs → Parted r → Parted s
-    → atom_text bs ++ r ≡ atom_text cs ++ s → (atom bs ≡ atom cs) × (r ≡ s)
-one_atom bs cs r s h k p q e =
+one_atom : (bs cs r s : List ℕ) → SameTexts (atom bs) (atom cs) r s → (atom bs ≡ atom cs) × (r ≡ s)
+one_atom bs cs r s h =
     let limit = length (atom_text bs) + length (atom_text cs) in
     let found_one : found limit 0 (atom_text bs ++ r) ≡ value (atom bs) 0 (0 + length (atom_text bs)) =
-    value_found limit 0 (atom bs) r h (omega arith) (omega arith) p in
+    value_found limit 0 (atom bs) r h.of_bytes (omega arith) (omega arith) h.parted in
     let found_other : found limit 0 (atom_text cs ++ s) ≡ value (atom cs) 0 (0 + length (atom_text cs)) =
-    value_found limit 0 (atom cs) s k (omega arith) (omega arith) q in
+    value_found limit 0 (atom cs) s h.of_bytes' (omega arith) (omega arith) h.parted' in
     let equal : value (atom bs) 0 (0 + length (atom_text bs)) ≡ value (atom cs) 0 (0 + length (atom_text cs)) = sym found_one
-    ∙ ap (found limit 0) e ∙ found_other in
+    ∙ ap (found limit 0) h.same ∙ found_other in
     let values : bs ≡ cs = cc in
-    (ap atom values, cancel (atom_text bs) r s (e ∙ ap (λ xs. atom_text xs ++ s) (sym values)))
+    (ap atom values, cancel (atom_text bs) r s (h.same ∙ ap (λ xs. atom_text xs ++ s) (sym values)))
 
 no_list : (bs : List ℕ) (vs : Values) (r s : List ℕ) → atom_text bs ++ r ≡ text (list vs) ++ s → ⊥
 no_list bs vs r s e = (atom_starts bs r).no_opening (ap first e)
@@ -168,13 +175,14 @@ without_space (list us) (list bs) (atom cs) vs ws r s e = absurd (false≢true (
 without_space (list us) (list bs) (list cs) vs ws r s e = regroup (list bs) (list cs) vs ws r s e
 
 mutual
-  one_value : (v w : Value) (r s : List ℕ) → HasBytes v → HasBytes w → Parted r → Parted s → text v ++ r ≡ text w ++ s → (v ≡ w) × (r ≡ s)
-  one_value (atom bs) (atom cs) r s h k p q e = one_atom bs cs r s h k p q e
-  one_value (atom bs) (list ws) r s h k p q e = absurd (no_list bs ws r s e)
-  one_value (list vs) (atom cs) r s h k p q e = absurd (no_list cs vs s r (sym e))
-  one_value (list vs) (list ws) r s h k p q e =
-      let inner : (texts vs ++ 41 ∷ []) ++ r ≡ (texts ws ++ 41 ∷ []) ++ s = tails 40 _ _ e in
-      let all = one_list vs ws r s h k (sym (append_assoc (texts vs) (41 ∷ []) r) ∙ inner ∙ append_assoc (texts ws) (41 ∷ []) s) in
+  one_value : (v w : Value) (r s : List ℕ) → SameTexts v w r s → (v ≡ w) × (r ≡ s)
+  one_value (atom bs) (atom cs) r s h = one_atom bs cs r s h
+  one_value (atom bs) (list ws) r s h = absurd (no_list bs ws r s h.same)
+  one_value (list vs) (atom cs) r s h = absurd (no_list cs vs s r (sym h.same))
+  one_value (list vs) (list ws) r s h =
+      let inner : (texts vs ++ 41 ∷ []) ++ r ≡ (texts ws ++ 41 ∷ []) ++ s = tails 40 _ _ h.same in
+      let all = one_list vs ws r s h.of_bytes h.of_bytes' (sym (append_assoc (texts vs) (41 ∷ []) r) ∙ inner
+      ∙ append_assoc (texts ws) (41 ∷ []) s) in
       (ap list all.0, all.1)
 
   one_list : (vs ws : Values) (r s : List ℕ) → HaveBytes vs → HaveBytes ws → texts vs ++ 41 ∷ r ≡ texts ws ++ 41 ∷ s → (vs ≡ ws) × (r ≡ s)
@@ -182,8 +190,13 @@ mutual
   one_list nil (cons w ws) r s h k e = absurd (texts_start w ws (41 ∷ s) (ap first (sym e)))
   one_list (cons v vs) nil r s h k e = absurd (texts_start v vs (41 ∷ r) (ap first e))
   one_list (cons v vs) (cons w ws) r s h k e =
-      let one = one_value v w (texts_behind v vs ++ 41 ∷ r) (texts_behind w ws ++ 41 ∷ s) h.0 k.0 (parted_behind v vs (41 ∷ r) refl)
-      (parted_behind w ws (41 ∷ s) refl) (regroup v w vs ws (41 ∷ r) (41 ∷ s) e) in
+      let one = one_value v w (texts_behind v vs ++ 41 ∷ r) (texts_behind w ws ++ 41 ∷ s) (record {
+        of_bytes = h.0;
+        of_bytes' = k.0;
+        parted = parted_behind v vs (41 ∷ r) refl;
+        parted' = parted_behind w ws (41 ∷ s) refl;
+        same = regroup v w vs ws (41 ∷ r) (41 ∷ s) e;
+      }) in
       let more = one_behind v vs ws r s h.1 k.1 (one.1 ∙ ap (λ u. texts_behind u ws ++ 41 ∷ s) (sym one.0)) in
       (ap (λ u. cons u vs) one.0 ∙ ap (cons w) more.0, more.1)
 
@@ -193,13 +206,24 @@ mutual
   one_behind before nil (cons w ws) r s h k e = absurd (behind_starts before w ws (41 ∷ s) (ap first (sym e)))
   one_behind before (cons v vs) nil r s h k e = absurd (behind_starts before v vs (41 ∷ r) (ap first e))
   one_behind before (cons v vs) (cons w ws) r s h k e =
-      let one = one_value v w (texts_behind v vs ++ 41 ∷ r) (texts_behind w ws ++ 41 ∷ s) h.0 k.0 (parted_behind v vs (41 ∷ r) refl)
-      (parted_behind w ws (41 ∷ s) refl) (without_space before v w vs ws (41 ∷ r) (41 ∷ s) e) in
+      let one = one_value v w (texts_behind v vs ++ 41 ∷ r) (texts_behind w ws ++ 41 ∷ s) (record {
+        of_bytes = h.0;
+        of_bytes' = k.0;
+        parted = parted_behind v vs (41 ∷ r) refl;
+        parted' = parted_behind w ws (41 ∷ s) refl;
+        same = without_space before v w vs ws (41 ∷ r) (41 ∷ s) e;
+      }) in
       let more = one_behind v vs ws r s h.1 k.1 (one.1 ∙ ap (λ u. texts_behind u ws ++ 41 ∷ s) (sym one.0)) in
       (ap (λ u. cons u vs) one.0 ∙ ap (cons w) more.0, more.1)
 
 pub one_text : (v w : Value) → HasBytes v → HasBytes w → text v ≡ text w → v ≡ w
-one_text v w h k e = (one_value v w (10 ∷ []) (10 ∷ []) h k refl refl (ap (λ xs. xs ++ 10 ∷ []) e)).0
+one_text v w h k e = (one_value v w (10 ∷ []) (10 ∷ []) (record {
+  of_bytes = h;
+  of_bytes' = k;
+  parted = refl;
+  parted' = refl;
+  same = ap (λ xs. xs ++ 10 ∷ []) e;
+})).0
 
 -- ---- the text alone
 

@@ -45,37 +45,36 @@ found_by limit from n s b rest r = elim r [
   | shown kind back ↦ bad kind (from + n - back)
 ]
 
--- the byte is in reach: it is behind the item, or the item has room
-pub found_next : (limit from n : ℕ) (s : State) (b : ℕ) (rest : List ℕ) → (not (is_behind s b) && nat_le limit n) ≡ false
-    → found_from limit from n s (b ∷ rest) ≡ found_by limit from n s b rest (step s b)
-found_next limit from n s b rest e = ap (λ c. if c then bad TooLong (from + n) else found_by limit from n s b rest (step s b)) e
-
 pub has_room : (limit n : ℕ) (c : Bool) → n < limit → (c && nat_le limit n) ≡ false
 has_room limit n c h = and_right c (nat_le limit n) (lt-leb limit n h)
 
-found_then : (limit from n : ℕ) (s t : State) (b : ℕ) (rest : List ℕ) → step s b ≡ on t → n < limit
-    → found_from limit from n s (b ∷ rest) ≡ found_from limit from (n + 1) t rest
-found_then limit from n s t b rest e h = found_next limit from n s b rest (has_room limit n (not (is_behind s b)) h)
-    ∙ ap (found_by limit from n s b rest) e
+module _ (limit from : ℕ) where
+  -- the byte is in reach: it is behind the item, or the item has room
+  pub found_next : (n : ℕ) (s : State) (b : ℕ) (rest : List ℕ) → (not (is_behind s b) && nat_le limit n) ≡ false
+      → found_from limit from n s (b ∷ rest) ≡ found_by limit from n s b rest (step s b)
+  found_next n s b rest e = ap (λ c. if c then bad TooLong (from + n) else found_by limit from n s b rest (step s b)) e
 
-pub found_at : (limit from : ℕ) (s : State) (rest : List ℕ) (n m : ℕ) → n ≡ m
-    → found_from limit from n s rest ≡ found_from limit from m s rest
-found_at limit from s rest n m e = ap (λ k. found_from limit from k s rest) e
+  pub found_at : (s : State) (rest : List ℕ) (n m : ℕ) → n ≡ m → found_from limit from n s rest ≡ found_from limit from m s rest
+  found_at s rest n m e = ap (λ k. found_from limit from k s rest) e
 
--- over bytes inside the longest item
-found_more : (limit from n : ℕ) (s t : State) (b : ℕ) (bs rest : List ℕ) (r : Step)
-    → ((u : State) → through u bs ≡ on t → found_from limit from (n + 1) u (bs ++ rest) ≡ found_from limit from (n + 1 + length bs) t rest)
-    → n < limit → step s b ≡ r → proceed r (λ u. through u bs) ≡ on t
-    → found_from limit from n s (b ∷ (bs ++ rest)) ≡ found_from limit from (n + 1 + length bs) t rest
-found_more limit from n s t b bs rest (on u) h l is e = found_then limit from n s u b (bs ++ rest) is l ∙ h u e
-found_more limit from n s t b bs rest (whole v) h l is e = cc
-found_more limit from n s t b bs rest (shown kind back) h l is e = cc
+  module _ (n : ℕ) (s : State) (b : ℕ) (l : n < limit) where
+    found_then : (t : State) (rest : List ℕ) → step s b ≡ on t
+        → found_from limit from n s (b ∷ rest) ≡ found_from limit from (n + 1) t rest
+    found_then t rest e = found_next n s b rest (has_room limit n (not (is_behind s b)) l) ∙ ap (found_by limit from n s b rest) e
 
-pub found_through : (limit from n : ℕ) (s t : State) (xs rest : List ℕ) → through s xs ≡ on t → n + length xs ≤ limit
-    → found_from limit from n s (xs ++ rest) ≡ found_from limit from (n + length xs) t rest
-found_through limit from n s t [] rest e h = ap (λ u. found_from limit from n u rest) (same_state s t e)
-    ∙ found_at limit from t rest n (n + 0) (omega arith)
-found_through limit from n s t (b ∷ bs) rest e h =
-    found_more limit from n s t b bs rest (step s b) (λ u k. found_through limit from (n + 1) u t bs rest k (omega (arith, h)))
-    (omega (arith, h)) refl e
-    ∙ found_at limit from t rest (n + 1 + length bs) (n + suc (length bs)) (omega arith)
+    -- over bytes inside the longest item
+    found_more : (t : State) (bs rest : List ℕ) (r : Step)
+        → ((u : State) → through u bs ≡ on t
+        → found_from limit from (n + 1) u (bs ++ rest) ≡ found_from limit from (n + 1 + length bs) t rest)
+        → step s b ≡ r → proceed r (λ u. through u bs) ≡ on t
+        → found_from limit from n s (b ∷ (bs ++ rest)) ≡ found_from limit from (n + 1 + length bs) t rest
+    found_more t bs rest (on u) h is e = found_then u (bs ++ rest) is ∙ h u e
+    found_more t bs rest (whole v) h is e = cc
+    found_more t bs rest (shown kind back) h is e = cc
+
+  pub found_through : (n : ℕ) (s t : State) (xs rest : List ℕ) → through s xs ≡ on t → n + length xs ≤ limit
+      → found_from limit from n s (xs ++ rest) ≡ found_from limit from (n + length xs) t rest
+  found_through n s t [] rest e h = ap (λ u. found_from limit from n u rest) (same_state s t e) ∙ found_at t rest n (n + 0) (omega arith)
+  found_through n s t (b ∷ bs) rest e h =
+      found_more n s b (omega (arith, h)) t bs rest (step s b) (λ u k. found_through (n + 1) u t bs rest k (omega (arith, h))) refl e
+      ∙ found_at t rest (n + 1 + length bs) (n + suc (length bs)) (omega arith)

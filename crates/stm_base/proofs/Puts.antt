@@ -17,19 +17,20 @@ take-front zero xs ys = (0, refl)
 take-front (suc n) [] ys = (0, refl)
 take-front (suc n) (x ∷ xs) ys = let r = take-front n xs ys in (suc r.0, ap (λ l. x ∷ l) r.1)
 
-Grew-both : (f g h : Bool) (a b c : Option (List ℕ)) (xs ys : List ℕ) → Grew f g a b xs → Grew g h b c ys → Grew f h a c (xs ++ ys)
-Grew-both false false false a b c xs ys p q = Appends-trans a b c xs ys p q
-Grew-both false false true a b c xs ys p q = (
-  length xs + q.0,
-  subst (Appends a c) (sym (take-append-add xs ys q.0)) (Appends-trans a b c xs _ p q.1),
-)
-Grew-both false true true a b c xs ys p q =
-    let m = take-front p.0 xs ys in
-    (m.0, subst (Appends a c) m.1 (Appends-kept a b c _ p.1 q))
-Grew-both false true false a b c xs ys p q = absurd q
-Grew-both true true true a b c xs ys p q = Keeps-trans a b c p q
-Grew-both true true false a b c xs ys p q = absurd q
-Grew-both true false h a b c xs ys p q = absurd p
+module _ (a b c : Option (List ℕ)) (xs ys : List ℕ) where
+  Grew-both : (f g h : Bool) → Grew f g a b xs → Grew g h b c ys → Grew f h a c (xs ++ ys)
+  Grew-both false false false p q = Appends-trans a b c xs ys p q
+  Grew-both false false true p q = (
+    length xs + q.0,
+    subst (Appends a c) (sym (take-append-add xs ys q.0)) (Appends-trans a b c xs _ p q.1),
+  )
+  Grew-both false true true p q =
+      let m = take-front p.0 xs ys in
+      (m.0, subst (Appends a c) m.1 (Appends-kept a b c _ p.1 q))
+  Grew-both false true false p q = absurd q
+  Grew-both true true true p q = Keeps-trans a b c p q
+  Grew-both true true false p q = absurd q
+  Grew-both true false h p q = absurd p
 
 -- where the Out hasn't failed it hadn't before
 Grew-clean : (f g : Bool) (a b : Option (List ℕ)) (xs : List ℕ) → Grew f g a b xs → g ≡ false → f ≡ false
@@ -40,7 +41,7 @@ Grew-clean true false a b xs w e = absurd w
 -- two puts in a row are one of both pieces
 pub IsPut-both : (a b c : Output) (xs ys : List ℕ) → IsPut a xs b → IsPut b ys c → IsPut a (xs ++ ys) c
 IsPut-both a b c xs ys p q = record {
-  grew = Grew-both a.failed b.failed c.failed a.written b.written c.written xs ys p.grew q.grew;
+  grew = Grew-both a.written b.written c.written xs ys a.failed b.failed c.failed p.grew q.grew;
   idle = λ e. q.idle (ap (λ (o : Output). o.failed) (p.idle e) ∙ e) ∙ p.idle e;
   later = omega arith;
   passed = λ e. q.passed e ∙ p.passed (Grew-clean b.failed c.failed b.written c.written ys q.grew e);

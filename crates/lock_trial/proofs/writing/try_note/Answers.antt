@@ -11,7 +11,7 @@ give_back-requires-clause-grown c = let got = c.in-Held.ensures.tried.1.1 in let
     let number : c.number-number.result ≡ w.number = c.number-number.ensures.number ∙ sym (ap (λ v. v.number) got) in
     let seen : log ≡ w.seen = ap (λ s. s.notes.items) c.state.ensures.value ∙ sym (ap (λ v. v.seen) got) in
     subst (λ (p : ℕ × List Note). Adds (λ (e : Note). e.by) p.0 p.1 now) (λ i. (number i, seen i))
-    (adds_noted c.add-added.result c.number-number.result c.args.what log now c.add-added.ensures.notes)
+    (adds_noted c.number-number.result c.args.what log now c.add-added.result c.add-added.ensures.notes)
 
 pub returns-in-Held-clause-mine : goal.returns-in-Held-clause-mine
 returns-in-Held-clause-mine c = let got = c.in-Held.ensures.tried.1 in let after = c.give_back.ensures.seen in
@@ -19,7 +19,7 @@ returns-in-Held-clause-mine c = let got = c.in-Held.ensures.tried.1 in let after
     let n : ℕ = c.args.seat.now.view.number in let k : c.number-number.result ≡ n = c.number-number.ensures.number in
     let at : c.try_hold.new.seat.view.number ≡ n = ap (λ v. v.number) got.1 in
     let start : c.state.result.now.notes.items ≡ state.notes.items = ap (λ s. s.notes.items) c.state.ensures.value in
-    mine_grows c.add-added.result n c.args.what state.notes.items now.notes.items _ _ got.0.own
+    mine_grows n c.args.what state.notes.items now.notes.items c.add-added.result _ _ got.0.own
     (ap (λ v. v.mine) after ∙ ap (λ (j : ℕ). only (λ (e : Note). e.by) j now.notes.items) at)
     (subst (λ (p : List Note × ℕ). MatchResult c.add-added.result (λ _. now.notes.items ≡ p.0 ++ note p.1 c.args.what ∷ [])
     (λ _. now.notes.items ≡ p.0)) (λ i. (start i, k i)) c.add-added.ensures.notes)
