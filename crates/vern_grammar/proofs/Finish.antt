@@ -155,8 +155,8 @@ finishes (with_colon {s = s} {xs = xs} q c d r ns h) = finish_names_sort _ xs s 
 finishes (with_sort {s = s} q c d e sort r ns h) = finish_names_end _ s (grounded r)
 finishes (group_names {s = s} {m = m} {k = k} {gs = gs} {xs = xs} q c a r g l ns) =
     finish_in_group (binder q c.from gs (m + k)) xs s (grounded r) (group_room (depth s) m k (length xs) l (names_or ns))
-finishes (group_colon {s = s} {xs = xs} q c a d r g ns h) = finish_group_sort _ xs s (grounded r)
-finishes (group_sorted {s = s} q c a d e sort r g ns h) = finish_group_end _ s (grounded r)
+finishes (group_colon {s = s} {xs = xs} q c a d r g) = finish_group_sort _ xs s (grounded r)
+finishes (group_sorted {s = s} q c a d e sort r g) = finish_group_end _ s (grounded r)
 finishes (with_groups {s = s} q c r g) = finish_in_groups _ s (grounded r)
 
 pub record GoesOn (aim : Aim) (ts : List Lexeme) : Type 0 where

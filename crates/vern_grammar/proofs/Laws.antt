@@ -145,30 +145,29 @@ fails_last s ts st e n = record {
 abbrev Verdict : List Frame → List Lexeme → Type 0
 Verdict s ts = ((p : Phrase) × (parsed s ts ≡ Some p)) ⊎ ((p : ℕ) × Fails s ts p)
 
-verdict_end : (s : List Frame) (ts : List Lexeme) (st : State) (m : Option Phrase) → run (start s) ts ≡ Some st → ends (Some st) ≡ m
-    → Verdict s ts
-verdict_end s ts st (Some p) e f = inl (p, ap ends e ∙ f)
-verdict_end s ts st None e f = inr (length ts, fails_last s ts st e f)
+module _ (s : List Frame) where
+  verdict_end : (ts : List Lexeme) (st : State) (m : Option Phrase) → run (start s) ts ≡ Some st → ends (Some st) ≡ m → Verdict s ts
+  verdict_end ts st (Some p) e f = inl (p, ap ends e ∙ f)
+  verdict_end ts st None e f = inr (length ts, fails_last s ts st e f)
 
-verdict_step : (s : List Frame) (ts us : List Lexeme) (u : Lexeme) (st : State) (m : Option State) → run (start s) ts ≡ Some st
-    → step st u ≡ m →
-    ((to : State) → run (start s) (ts ++ (u ∷ [])) ≡ Some to → Verdict s ((ts ++ (u ∷ [])) ++ us)) → Verdict s (ts ++ (u ∷ us))
-verdict_step s ts us u st (Some to) e f g = rw append_assoc at (g to (run-append (start s) ts (u ∷ []) ∙ ap (λ m. next m u) e ∙ f))
-verdict_step s ts us u st None e f g = inr (length ts, fails_at s ts us u st e f)
+  verdict_step : (ts us : List Lexeme) (u : Lexeme) (st : State) (m : Option State) → run (start s) ts ≡ Some st → step st u ≡ m →
+      ((to : State) → run (start s) (ts ++ (u ∷ [])) ≡ Some to → Verdict s ((ts ++ (u ∷ [])) ++ us)) → Verdict s (ts ++ (u ∷ us))
+  verdict_step ts us u st (Some to) e f g = rw append_assoc at (g to (run-append (start s) ts (u ∷ []) ∙ ap (λ m. next m u) e ∙ f))
+  verdict_step ts us u st None e f g = inr (length ts, fails_at s ts us u st e f)
 
-verdict_by : (us : List Lexeme) (s : List Frame) (ts : List Lexeme) (st : State) → run (start s) ts ≡ Some st → Verdict s (ts ++ us)
-verdict_by [] s ts st e = rw append-nil (verdict_end s ts st (ends (Some st)) e refl)
-verdict_by (u ∷ us) s ts st e = verdict_step s ts us u st (step st u) e refl (λ to f. verdict_by us s (ts ++ (u ∷ [])) to f)
+  verdict_by : (us ts : List Lexeme) (st : State) → run (start s) ts ≡ Some st → Verdict s (ts ++ us)
+  verdict_by [] ts st e = rw append-nil (verdict_end ts st (ends (Some st)) e refl)
+  verdict_by (u ∷ us) ts st e = verdict_step ts us u st (step st u) e refl (λ to f. verdict_by us (ts ++ (u ∷ [])) to f)
 
 pub expression_or_fault : (ts : List Lexeme) → ((t : Expression) × IsExpression ts t) ⊎ ((p : ℕ) × IsFault IsExpression ts p)
-expression_or_fault ts = of (verdict_by ts [] [] _ refl)
+expression_or_fault ts = of (verdict_by [] ts [] _ refl)
   where
     of : Verdict [] ts → ((t : Expression) × IsExpression ts t) ⊎ ((p : ℕ) × IsFault IsExpression ts p)
     of (inl (p, e)) = let (t, i, x) = expression_given ts p e in inl (t, x)
     of (inr (p, f)) = inr (p, expression_fault ts p f)
 
 pub shape_or_fault : (ts : List Lexeme) → ((t : Shape) × IsShape ts t) ⊎ ((p : ℕ) × IsFault IsShape ts p)
-shape_or_fault ts = of (verdict_by ts (outline ∷ []) [] _ refl)
+shape_or_fault ts = of (verdict_by (outline ∷ []) ts [] _ refl)
   where
     of : Verdict (outline ∷ []) ts → ((t : Shape) × IsShape ts t) ⊎ ((p : ℕ) × IsFault IsShape ts p)
     of (inl (p, e)) = let (t, i, x) = shape_given ts p e in inl (t, x)

@@ -113,19 +113,20 @@ cond_no true false x y e = refl
 cond_no true true x y (inl e) = cc
 cond_no true true x y (inr e) = cc
 
--- the head takes what ends before the next operator
-reduces : (op : Operator) (n : ℕ) (h : Head) (t : Expression) (a b : ℕ) (s : List Frame) → Ends (before op) n (room h) →
-    place op (nat_le n (left_at_most op)) t a b (governor h ∷ s)
-    ≡ place op (nat_le (level h) (left_at_most op)) (governing h t b) (begin h) b s
-unfolding place
-reduces op n h t a b s (inl small) = cond_no _ _ _ _ (inr (lt-leb (op_level op) (room h) small))
-reduces op n h t a b s (inr high) = cond_no _ _ _ _ (inl (lt-leb n (left_at_most op) high))
+module _ (n : ℕ) (h : Head) (t : Expression) (a b : ℕ) (s : List Frame) where
+  -- the head takes what ends before the next operator
+  reduces : (op : Operator) → Ends (before op) n (room h) →
+      place op (nat_le n (left_at_most op)) t a b (governor h ∷ s)
+      ≡ place op (nat_le (level h) (left_at_most op)) (governing h t b) (begin h) b s
+  unfolding place
+  reduces op (inl small) = cond_no _ _ _ _ (inr (lt-leb (op_level op) (room h) small))
+  reduces op (inr high) = cond_no _ _ _ _ (inl (lt-leb n (left_at_most op) high))
 
-settles_head : (g : Next) (n : ℕ) (h : Head) (t : Expression) (a b : ℕ) (s : List Frame) (st : State) → Ends g n (room h)
-    → Settles g n t a b (governor h ∷ s) st → Settles g (level h) (governing h t b) (begin h) b s st
-unfolding close whole
-settles_head last n h t a b s st e p = p
-settles_head (before op) n h t a b s st e p = λ c. p c ∙ reduces op n h t a b s e
+  settles_head : (g : Next) (st : State) → Ends g n (room h) → Settles g n t a b (governor h ∷ s) st
+      → Settles g (level h) (governing h t b) (begin h) b s st
+  unfolding close whole
+  settles_head last st e p = p
+  settles_head (before op) st e p = λ c. p c ∙ reduces op e
 
 fits_zero : (op : Operator) (t : Expression) (a b : ℕ) (s : List Frame)
     → place op true t a b s ≡ place op (nat_le 0 (left_at_most op)) t a b s
@@ -168,54 +169,53 @@ names_below : {o k : ℕ} {ts : List Lexeme} {xs : List Name} → IsNames o k ts
 names_below none h = omega arith
 names_below (more x c r l) h = omega arith
 
-runs_names : {o k : ℕ} {ts : List Lexeme} {xs : List Name} → IsNames o k ts xs → (q : Bool) (f : ℕ) (s : List Frame) → depth s ≡ o →
-    run (Some (at (mode.in_names (binder q f [] 0) []) s)) ts ≡ Some (at (mode.in_names (binder q f [] k) xs) s)
-runs_names none q f s d = refl
-runs_names (more {k = k} {ts = ts} {xs = xs} x c r l) q f s d =
-    run-append _ ts (tok (kind.name x) c ∷ []) ∙ ap (λ m. next m (tok (kind.name x) c)) (runs_names r q f s d)
-    ∙ within_yes (depth s + k) _ (rw d l)
+-- A quantifier's names or groups, behind its first token at f, over the frames s.
+module _ (q : Bool) (f : ℕ) (s : List Frame) where
+  runs_names : {o k : ℕ} {ts : List Lexeme} {xs : List Name} → IsNames o k ts xs → depth s ≡ o →
+      run (Some (at (mode.in_names (binder q f [] 0) []) s)) ts ≡ Some (at (mode.in_names (binder q f [] k) xs) s)
+  runs_names none d = refl
+  runs_names (more {k = k} {ts = ts} {xs = xs} x c r l) d =
+      run-append _ ts (tok (kind.name x) c ∷ []) ∙ ap (λ m. next m (tok (kind.name x) c)) (runs_names r d)
+      ∙ within_yes (depth s + k) _ (rw d l)
 
-runs_group_names : {o k : ℕ} {ts : List Lexeme} {xs : List Name} → IsNames o k ts xs
-    → (q : Bool) (f : ℕ) (gs : List Group) (m : ℕ) (s : List Frame) → depth s + m + 1 ≡ o →
-    run (Some (at (mode.in_group (binder q f gs m) []) s)) ts ≡ Some (at (mode.in_group (binder q f gs (m + k)) xs) s)
-runs_group_names none q f gs m s d = ap (λ j. Some (at (mode.in_group (binder q f gs j) []) s)) (sym (add-zero m))
-runs_group_names (more {k = k} {ts = ts} {xs = xs} x c r l) q f gs m s d =
-    run-append _ ts (tok (kind.name x) c ∷ []) ∙ ap (λ w. next w (tok (kind.name x) c)) (runs_group_names r q f gs m s d)
-    ∙ within_yes (depth s + (m + k) + 1) _ (omega arith)
-    ∙ ap (λ j. Some (at (mode.in_group (binder q f gs j) (xs ++ (named x c ∷ []))) s)) (add_assoc m k 1)
+  runs_group_names : {o k : ℕ} {ts : List Lexeme} {xs : List Name} → IsNames o k ts xs → (gs : List Group) (m : ℕ) → depth s + m + 1 ≡ o →
+      run (Some (at (mode.in_group (binder q f gs m) []) s)) ts ≡ Some (at (mode.in_group (binder q f gs (m + k)) xs) s)
+  runs_group_names none gs m d = ap (λ j. Some (at (mode.in_group (binder q f gs j) []) s)) (sym (add-zero m))
+  runs_group_names (more {k = k} {ts = ts} {xs = xs} x c r l) gs m d =
+      run-append _ ts (tok (kind.name x) c ∷ []) ∙ ap (λ w. next w (tok (kind.name x) c)) (runs_group_names r gs m d)
+      ∙ within_yes (depth s + (m + k) + 1) _ (omega arith)
+      ∙ ap (λ j. Some (at (mode.in_group (binder q f gs j) (xs ++ (named x c ∷ []))) s)) (add_assoc m k 1)
 
-runs_group_sort : (q : Bool) (f : ℕ) (gs : List Group) (m : ℕ) (xs : List Name) (s : List Frame) (b c d : Span) (sort : List ℕ)
-    → 0 < length xs →
-    run (Some (at (mode.in_group (binder q f gs m) xs) s)) (tok kind.colon b ∷ tok (kind.name sort) c ∷ tok kind.closing d ∷ [])
-    ≡ Some (at (mode.in_groups (binder q f (gs ++ (group xs (named sort c) ∷ [])) m)) s)
-runs_group_sort q f gs m xs s b c d sort h = ap (λ y. run (cond y (Some (at (mode.group_sort (binder q f gs m) xs) s)) None)
-    (tok (kind.name sort) c ∷ tok kind.closing d ∷ [])) (lt-ltb 0 (length xs) h)
+  runs_group_sort : (gs : List Group) (m : ℕ) (xs : List Name) (b c d : Span) (sort : List ℕ) → 0 < length xs →
+      run (Some (at (mode.in_group (binder q f gs m) xs) s)) (tok kind.colon b ∷ tok (kind.name sort) c ∷ tok kind.closing d ∷ [])
+      ≡ Some (at (mode.in_groups (binder q f (gs ++ (group xs (named sort c) ∷ [])) m)) s)
+  runs_group_sort gs m xs b c d sort h = ap (λ y. run (cond y (Some (at (mode.group_sort (binder q f gs m) xs) s)) None)
+      (tok (kind.name sort) c ∷ tok kind.closing d ∷ [])) (lt-ltb 0 (length xs) h)
 
-runs_names_sort : (q : Bool) (f : ℕ) (m : ℕ) (xs : List Name) (s : List Frame) (b c d : Span) (sort : List ℕ) → 0 < length xs →
-    run (Some (at (mode.in_names (binder q f [] m) xs) s)) (tok kind.colon b ∷ tok (kind.name sort) c ∷ tok kind.comma d ∷ [])
-    ≡ start (governor (quantifier (binder q f (group xs (named sort c) ∷ []) m)) ∷ s)
-runs_names_sort q f m xs s b c d sort h = ap (λ y. run (cond y (Some (at (mode.names_sort (binder q f [] m) xs) s)) None)
-    (tok (kind.name sort) c ∷ tok kind.comma d ∷ [])) (lt-ltb 0 (length xs) h)
+  runs_names_sort : (m : ℕ) (xs : List Name) (b c d : Span) (sort : List ℕ) → 0 < length xs →
+      run (Some (at (mode.in_names (binder q f [] m) xs) s)) (tok kind.colon b ∷ tok (kind.name sort) c ∷ tok kind.comma d ∷ [])
+      ≡ start (governor (quantifier (binder q f (group xs (named sort c) ∷ []) m)) ∷ s)
+  runs_names_sort m xs b c d sort h = ap (λ y. run (cond y (Some (at (mode.names_sort (binder q f [] m) xs) s)) None)
+      (tok (kind.name sort) c ∷ tok kind.comma d ∷ [])) (lt-ltb 0 (length xs) h)
 
-runs_group : {o k : ℕ} {ts : List Lexeme} {g : Group} → IsGroup o k ts g
-    → (q : Bool) (f : ℕ) (gs : List Group) (m : ℕ) (s : List Frame) (st : State) → depth s + m ≡ o →
-    ((c : Span) → step st (tok kind.opening c) ≡ within (depth s + m + 1) (at (mode.in_group (binder q f gs m) []) s)) →
-    run (Some st) ts ≡ Some (at (mode.in_groups (binder q f (gs ++ (g ∷ [])) (m + k))) s)
-runs_group (grouped {k = k} {ts = ts} {xs = xs} a b c d sort ns p) q f gs m s st e i =
-    let low = names_below ns p in
-    ap (λ w. run w (ts ++ (tok kind.colon b ∷ tok (kind.name sort) c ∷ tok kind.closing d ∷ []))) (i a
-    ∙ within_yes (depth s + m + 1) _ (omega arith))
-    ∙ run-append _ ts _ ∙ ap (λ w. run w (tok kind.colon b ∷ tok (kind.name sort) c ∷ tok kind.closing d ∷ []))
-    (runs_group_names ns q f gs m s (ap (λ w. w + 1) e))
-    ∙ runs_group_sort q f gs (m + k) xs s b c d sort p
+  runs_group : {o k : ℕ} {ts : List Lexeme} {g : Group} → IsGroup o k ts g → (gs : List Group) (m : ℕ) (st : State) → depth s + m ≡ o →
+      ((c : Span) → step st (tok kind.opening c) ≡ within (depth s + m + 1) (at (mode.in_group (binder q f gs m) []) s)) →
+      run (Some st) ts ≡ Some (at (mode.in_groups (binder q f (gs ++ (g ∷ [])) (m + k))) s)
+  runs_group (grouped {k = k} {ts = ts} {xs = xs} a b c d sort ns p) gs m st e i =
+      let low = names_below ns p in
+      ap (λ w. run w (ts ++ (tok kind.colon b ∷ tok (kind.name sort) c ∷ tok kind.closing d ∷ []))) (i a
+      ∙ within_yes (depth s + m + 1) _ (omega arith))
+      ∙ run-append _ ts _ ∙ ap (λ w. run w (tok kind.colon b ∷ tok (kind.name sort) c ∷ tok kind.closing d ∷ []))
+      (runs_group_names ns gs m (ap (λ w. w + 1) e))
+      ∙ runs_group_sort gs (m + k) xs b c d sort p
 
-runs_groups : {o k : ℕ} {ts : List Lexeme} {gs : List Group} → IsGroups o k ts gs → (q : Bool) (f : ℕ) (s : List Frame) → depth s ≡ o →
-    run (Some (at (mode.in_names (binder q f [] 0) []) s)) ts ≡ Some (at (mode.in_groups (binder q f gs k)) s)
-runs_groups (one {k = k} {g = g} r) q f s d = runs_group r q f [] 0 s (at (mode.in_names (binder q f [] 0) []) s) (add-zero (depth s)
-    ∙ d) (λ c. refl) ∙ ap (λ j. Some (at (mode.in_groups (binder q f (g ∷ []) j)) s)) (zero-add k)
-runs_groups (then {k = k} {ts = ts} {us = us} {gs = gs} rs r) q f s d =
-    run-append _ ts us ∙ ap (λ w. run w us) (runs_groups rs q f s d)
-    ∙ runs_group r q f gs k s (at (mode.in_groups (binder q f gs k)) s) (ap (λ w. w + k) d) (λ c. refl)
+  runs_groups : {o k : ℕ} {ts : List Lexeme} {gs : List Group} → IsGroups o k ts gs → depth s ≡ o →
+      run (Some (at (mode.in_names (binder q f [] 0) []) s)) ts ≡ Some (at (mode.in_groups (binder q f gs k)) s)
+  runs_groups (one {k = k} {g = g} r) d = runs_group r [] 0 (at (mode.in_names (binder q f [] 0) []) s) (add-zero (depth s)
+      ∙ d) (λ c. refl) ∙ ap (λ j. Some (at (mode.in_groups (binder q f (g ∷ []) j)) s)) (zero-add k)
+  runs_groups (then {k = k} {ts = ts} {us = us} {gs = gs} rs r) d =
+      run-append _ ts us ∙ ap (λ w. run w us) (runs_groups rs d)
+      ∙ runs_group r gs k (at (mode.in_groups (binder q f gs k)) s) (ap (λ w. w + k) d) (λ c. refl)
 
 groups_below : {o k : ℕ} {ts : List Lexeme} {gs : List Group} → IsGroups o k ts gs → o < limit
 groups_below (one (grouped a b c d sort ns p)) = let h = names_below ns p in omega arith
@@ -223,37 +223,39 @@ groups_below (then rs r) = groups_below rs
 
 -- ---- expressions
 
-runs_enclosed : (g : Next) (n a b : ℕ) (ts : List Lexeme) (t : Expression) (s : List Frame) (c d : Span) → depth s < limit
+runs_enclosed : {g : Next} {n a b : ℕ} {ts : List Lexeme} {t : Expression} {s : List Frame} (c d : Span) → depth s < limit
     → Arrives (parenthesis c.from ∷ s) ts n last a b t
     → Arrives s ((tok kind.opening c ∷ ts) ++ (tok kind.closing d ∷ [])) 0 g c.from d.to t
 unfolding close
-runs_enclosed g n a b ts t s c d l r = record {
+runs_enclosed {g = g} {ts = ts} {t = t} {s = s} c d l r = record {
   state = at (mode.after t c.from d.to) s;
   ran = ap (λ m. run m (ts ++ (tok kind.closing d ∷ []))) (within_yes (depth s) _ l) ∙ run-append _ ts _
       ∙ ap (λ m. next m (tok kind.closing d)) r.ran ∙ r.settles.0 d;
   settles = settles_after g t c.from d.to s;
 }
 
-runs_governed : (g : Next) (n a b : ℕ) (h : Head) (ts us : List Lexeme) (t : Expression) (s : List Frame) → Ends g n (room h)
-    → run (start s) ts ≡ start (governor h ∷ s) → Arrives (governor h ∷ s) us n g a b t
+runs_governed : {g : Next} {n a b : ℕ} {h : Head} {us : List Lexeme} {t : Expression} {s : List Frame} (ts : List Lexeme)
+    → Ends g n (room h) → run (start s) ts ≡ start (governor h ∷ s) → Arrives (governor h ∷ s) us n g a b t
     → Arrives s (ts ++ us) (level h) g (begin h) b (governing h t b)
-runs_governed g n a b h ts us t s e p r = record {
+runs_governed {g = g} {n = n} {a = a} {b = b} {h = h} {us = us} {t = t} {s = s} ts e p r = record {
   state = r.state;
   ran = run-append _ ts us ∙ ap (λ m. run m us) p ∙ r.ran;
-  settles = settles_head g n h t a b s r.state e r.settles;
+  settles = settles_head n h t a b s g r.state e r.settles;
 }
 
-runs_left : (n : ℕ) (op : Operator) (a b : ℕ) (ts : List Lexeme) (t : Expression) (s : List Frame) (c : Span) → n ≤ left_at_most op
+runs_left : {n a b : ℕ} {op : Operator} {ts : List Lexeme} {t : Expression} {s : List Frame} (c : Span) → n ≤ left_at_most op
     → op_level op ≤ top s → depth s < limit → Arrives s ts n (before op) a b t
     → run (start s) (ts ++ (tok (kind.sign op) c ∷ [])) ≡ start (governor (operator op t a) ∷ s)
-runs_left n op a b ts t s c m h l r = run-append _ ts _ ∙ ap (λ w. next w (tok (kind.sign op) c)) r.ran ∙ r.settles c
+runs_left {n = n} {a = a} {b = b} {op = op} {ts = ts} {t = t} {s = s} c m h l r =
+    run-append _ ts _ ∙ ap (λ w. next w (tok (kind.sign op) c)) r.ran ∙ r.settles c
     ∙ ap (λ y. place op y t a b s) (le-leb n (left_at_most op) m) ∙ place_yes op t a b s h l
 
-runs_argument : (n o to a b : ℕ) (ts us : List Lexeme) (x : Name) (ys : List Expression) (t : Expression) (s : List Frame) (c d : Span)
-    → depth s < limit → run (start s) ts ≡ Some (at (mode.applying x ys to) s) → Arrives (argument x ys ∷ s) us n last a b t
+runs_argument : {n to a b : ℕ} {us : List Lexeme} {x : Name} {ys : List Expression} {t : Expression} {s : List Frame}
+    (ts : List Lexeme) (c d : Span) → depth s < limit → run (start s) ts ≡ Some (at (mode.applying x ys to) s)
+    → Arrives (argument x ys ∷ s) us n last a b t
     → run (start s) (ts ++ ((tok kind.opening c ∷ us) ++ (tok kind.closing d ∷ []))) ≡ Some (at (mode.applying x (ys ++ (t ∷ [])) d.to) s)
 unfolding close
-runs_argument n o to a b ts us x ys t s c d l p r =
+runs_argument {us = us} {s = s} ts c d l p r =
     run-append _ ts _ ∙ ap (λ m. run m ((tok kind.opening c ∷ us) ++ (tok kind.closing d ∷ []))) p
     ∙ ap (λ m. run m (us ++ (tok kind.closing d ∷ []))) (within_yes (depth s) _ l) ∙ run-append _ us _
     ∙ ap (λ m. next m (tok kind.closing d)) r.ran ∙ r.settles.0 d
@@ -269,35 +271,34 @@ mutual
   }
   runs (applied {g = g} {to = to} {x = x} {ys = ys} p) s d f =
       record { state = at (mode.applying x ys to) s; ran = runs_application p s d; settles = settles_applying g x ys to s }
-  runs (enclosed {g = g} {n = n} {from = a} {to = b} {ts = ts} {t = t} c d l e) s h f =
-      runs_enclosed g n a b ts t s c d (rw h l) (runs e (parenthesis c.from ∷ s) (ap (λ k. k + 1) h) (inl (operand_most e)))
-  runs (governed {g = g} {n = n} {from = a} {to = b} {ts = ts} {us = us} {h = h} {t = t} p f' e r) s d f =
-      runs_governed g n a b h ts us t s e (runs_head p s d f) (runs r (governor h ∷ s) (ap (λ k. k + openings h) d) f')
+  runs (enclosed c d l e) s h f =
+      runs_enclosed c d (rw h l) (runs e (parenthesis c.from ∷ s) (ap (λ k. k + 1) h) (inl (operand_most e)))
+  runs (governed {ts = ts} {h = h} p f' e r) s d f =
+      runs_governed ts e (runs_head p s d f) (runs r (governor h ∷ s) (ap (λ k. k + openings h) d) f')
 
   pub runs_application : {o : ℕ} {ts : List Lexeme} {x : Name} {ys : List Expression} {to : ℕ} → IsApplication o ts x ys to
       → (s : List Frame) → depth s ≡ o → run (start s) ts ≡ Some (at (mode.applying x ys to) s)
   runs_application (alone x c) s d = refl
   runs_application (to_name {ts = ts} y c p) s d = run-append _ ts _ ∙ ap (λ m. next m (tok (kind.name y) c)) (runs_application p s d)
-  runs_application (to_expression {n = n} {o = o} {to = to} {from = a} {end = b} {ts = ts} {us = us} {x = x} {ys = ys} {t =
-      t} c d p l e) s h =
-      runs_argument n o to a b ts us x ys t s c d (rw h l) (runs_application p s h)
+  runs_application (to_expression {ts = ts} {x = x} {ys = ys} c d p l e) s h =
+      runs_argument ts c d (rw h l) (runs_application p s h)
       (runs e (argument x ys ∷ s) (ap (λ k. k + 1) h) (inl (operand_most e)))
 
   pub runs_head : {h : Head} {o : ℕ} {ts : List Lexeme} → IsHead h o ts → (s : List Frame) → depth s ≡ o → Fits (level h) (top s)
       → run (start s) ts ≡ start (governor h ∷ s)
-  runs_head (left {n = n} {from = a} {to = b} {ts = ts} {t = t} {op = op} c e m l) s d f =
-      runs_left n op a b ts t s c m (fits_level op (top s) f) (rw d l)
+  runs_head (left {n = n} {op = op} c e m l) s d f =
+      runs_left c m (fits_level op (top s) f) (rw d l)
       (runs e s d (inl (below_top n op (top s) m (fits_level op (top s) f))))
   runs_head (negating c l) s d f = ap (λ y. cond y (within (depth s) (at mode.want (governor (tilde c.from) ∷ s))) None)
       (le-leb tilde_level (top s) (fits_tilde (top s) f)) ∙ within_yes (depth s) _ (rw d l)
   runs_head (names {k = k} {ts = ts} {xs = xs} q a b c d sort ns p) s h f =
       ap (λ m. run m (ts ++ (tok kind.colon b ∷ tok (kind.name sort) c ∷ tok kind.comma d ∷ [])))
       (within_yes (depth s) _ (rw h (names_below ns p)))
-      ∙ run-append _ ts _ ∙ ap (λ m. run m (tok kind.colon b ∷ tok (kind.name sort) c ∷ tok kind.comma d ∷ [])) (runs_names ns q a.from s h)
-      ∙ runs_names_sort q a.from k xs s b c d sort p
+      ∙ run-append _ ts _ ∙ ap (λ m. run m (tok kind.colon b ∷ tok (kind.name sort) c ∷ tok kind.comma d ∷ [])) (runs_names q a.from s ns h)
+      ∙ runs_names_sort q a.from s k xs b c d sort p
   runs_head (groups {ts = ts} q a d gs) s h f =
       ap (λ m. run m (ts ++ (tok kind.comma d ∷ []))) (within_yes (depth s) _ (rw h (groups_below gs)))
-      ∙ run-append _ ts _ ∙ ap (λ m. next m (tok kind.comma d)) (runs_groups gs q a.from s h)
+      ∙ run-append _ ts _ ∙ ap (λ m. next m (tok kind.comma d)) (runs_groups q a.from s gs h)
 
 -- ---- shapes
 
@@ -337,11 +338,11 @@ chains_word s k c t h e = record {
   foreign = λ k c h. refl;
 }
 
-chains_arrow : (n a b : ℕ) (ts us : List Lexeme) (v : Expression) (t : Shape) (s : List Frame) (c : Span) → n ≤ outer → in_shape s ≡ true
+chains_arrow : {n a b : ℕ} {ts us : List Lexeme} {v : Expression} {t : Shape} {s : List Frame} (c : Span) → n ≤ outer → in_shape s ≡ true
     → depth s < limit → Arrives s ts n (before implication) a b v → Chains (link v ∷ s) us t
     → Chains s (ts ++ (tok (kind.sign implication) c ∷ us)) (made.arrow v t)
 unfolding chain
-chains_arrow n a b ts us v t s c m h l r q = record {
+chains_arrow {n = n} {a = a} {b = b} {ts = ts} {us = us} {v = v} {s = s} c m h l r q = record {
   state = q.state;
   ran = run-append _ ts _ ∙ ap (λ w. run w (tok (kind.sign implication) c ∷ us)) r.ran
       ∙ ap (λ w. run w us) (r.settles c ∙ ap (λ y. place implication y v a b s) (le-leb n outer m) ∙ place_link v a b s h l) ∙ q.ran;
@@ -365,6 +366,6 @@ pub chains : {o : ℕ} {ts : List Lexeme} {t : Shape} → IsShapeBehind o ts t �
     → Chains s ts t
 chains (set c) s h d = chains_word s kind.set c (made.set c) h refl
 chains (prop c) s h d = chains_word s kind.prop c (made.prop c) h refl
-chains (arrow {n = n} {from = a} {to = b} {ts = ts} {us = us} {t = v} {s = t} c e m l r) s h d =
-    chains_arrow n a b ts us v t s c m h (rw d l) (runs e s d (inl (rw (top_outer s h) m))) (chains r (link v ∷ s) refl (ap (λ k. k + 1) d))
+chains (arrow {t = v} c e m l r) s h d =
+    chains_arrow c m h (rw d l) (runs e s d (inl (rw (top_outer s h) m))) (chains r (link v ∷ s) refl (ap (λ k. k + 1) d))
 chains (plain {n = n} {from = a} {to = b} {ts = ts} {t = v} e f) s h d = chains_plain n a b ts v s h (runs e s d (rw (top_outer s h) f))

@@ -9,8 +9,8 @@ use Rattle.vern_grammar.specs.Trees as made
 use Rattle.vern_grammar.specs.Kinds.{Kind, Lexeme}
 use Rattle.vern_grammar.specs.Kinds as kind
 use Rattle.vern_grammar.specs.Levels.{op_level, left_at_most, tilde_level, bare, outer, limit}
-use Rattle.vern_grammar.specs.Grammar.{tok, named, group, binder, application, Head, operator, tilde, quantifier, level, room, begin}
-use Rattle.vern_grammar.specs.Grammar.{governing, Next, last, before, Fits, Ends, IsNames, none, more, IsGroup, grouped, IsGroups, one}
+use Rattle.vern_grammar.specs.Grammar.{tok, named, group, binder, Head, operator, tilde, quantifier, level, room}
+use Rattle.vern_grammar.specs.Grammar.{Next, last, before, Fits, Ends, IsNames, none, more, IsGroup, grouped, IsGroups, one}
 use Rattle.vern_grammar.specs.Grammar.{then, IsOperand, constant, applied, enclosed, governed, IsApplication, alone, to_name, to_expression}
 use Rattle.vern_grammar.specs.Grammar.{IsHead, left, negating, names, groups, IsShapeBehind, set, prop, arrow, plain}
 use Rattle.vern_grammar.specs.Machine.{Frame, parenthesis, argument, governor, outline, link, State, at, depth, top, in_shape, within}
@@ -43,6 +43,12 @@ pub data Begun : ℕ → ℕ → List Lexeme → List Group → Type 0 where
   no_group : {o : ℕ} → Begun o 0 [] []
   some_groups : {o k : ℕ} {ts : List Lexeme} {gs : List Group} → IsGroups o k ts gs → Begun o k ts gs
 
+-- a group that has its names: the groups before it, and the names
+pub record HasNames (o m k : ℕ) (us ws : List Lexeme) (gs : List Group) (xs : List Name) : Type 0 where
+  pub groups : Begun o m us gs
+  pub names : IsNames (o + m + 1) k ws xs
+  pub some : 0 < length xs
+
 -- the tokens that a state has read
 pub data Has : Aim → State → List Lexeme → Type 0 where
   wants : {aim : Aim} {s : List Frame} {ts : List Lexeme} → Reads aim s ts → Has aim (at mode.want s) ts
@@ -67,12 +73,12 @@ pub data Has : Aim → State → List Lexeme → Type 0 where
       Has aim (at (mode.in_group (binder q c.from gs (m + k)) xs) s) (ts ++ ((tok (kind.quantifier q) c ∷ us) ++ (tok kind.opening a ∷ ws)))
   group_colon : {aim : Aim} {s : List Frame} {ts us ws : List Lexeme} {m k : ℕ} {gs : List Group} {xs : List Name} (q : Bool)
       (c a d : Span) →
-      Reads aim s ts → Begun (depth s) m us gs → IsNames (depth s + m + 1) k ws xs → 0 < length xs →
+      Reads aim s ts → HasNames (depth s) m k us ws gs xs →
       Has aim (at (mode.group_sort (binder q c.from gs (m + k)) xs) s)
       (ts ++ ((tok (kind.quantifier q) c ∷ us) ++ ((tok kind.opening a ∷ ws) ++ (tok kind.colon d ∷ []))))
   group_sorted : {aim : Aim} {s : List Frame} {ts us ws : List Lexeme} {m k : ℕ} {gs : List Group} {xs : List Name} (q : Bool)
       (c a d e : Span) (sort : List ℕ) →
-      Reads aim s ts → Begun (depth s) m us gs → IsNames (depth s + m + 1) k ws xs → 0 < length xs →
+      Reads aim s ts → HasNames (depth s) m k us ws gs xs →
       Has aim (at (mode.group_end (binder q c.from (gs ++ (group xs (named sort e) ∷ [])) (m + k))) s)
       (ts ++ ((tok (kind.quantifier q) c ∷ us) ++ ((tok kind.opening a ∷ ws) ++ (tok kind.colon d ∷ tok (kind.name sort) e ∷ []))))
   with_groups : {aim : Aim} {s : List Frame} {ts us : List Lexeme} {k : ℕ} {gs : List Group} (q : Bool) (c : Span) →
@@ -102,40 +108,6 @@ pushed_link v a (outline ∷ s) h = refl
 pushed_link v a (link w ∷ s) h = refl
 pushed_link v a _ h = cc
 
-shift_sound : {aim : Aim} {s : List Frame} {ts us : List Lexeme} (op : Operator) (c : Span) (n a b : ℕ) (v : Expression) (to : State) →
-    Reads aim s ts → op_level op ≤ top s → IsOperand n (before op) (depth s) us a b v → (y : Bool) → nat_le n (left_at_most op) ≡ y
-    → shift op y v a s ≡ Some to →
-    Has aim to ((ts ++ us) ++ (tok (kind.sign op) c ∷ []))
-shift_sound op c n a b v to r m e false h p = cc
-shift_sound {s = s} op c n a b v to r m e true h p =
-    let (l, q) = within_some (depth s) (at mode.want (pushed op v a s ∷ s)) to p in
-    rw append_assoc (moved (ap (λ f. at mode.want (f ∷ s)) (sym (pushed_head op v a s m))
-    ∙ q) (wants (headed (left c e (leb-true n (left_at_most op) h) l) (inl m) r)))
-
-link_sound : {aim : Aim} {s : List Frame} {ts us : List Lexeme} (c : Span) (n a b : ℕ) (v : Expression) (to : State) →
-    Reads aim s ts → in_shape s ≡ true → IsOperand n (before implication) (depth s) us a b v → (y : Bool) → nat_le n outer ≡ y
-    → shift implication y v a s ≡ Some to →
-    Has aim to ((ts ++ us) ++ (tok (kind.sign implication) c ∷ []))
-link_sound c n a b v to r i e false h p = cc
-link_sound {s = s} c n a b v to r i e true h p =
-    let (l, q) = within_some (depth s) (at mode.want (pushed implication v a s ∷ s)) to p in
-    rw append_assoc (moved (ap (λ f. at mode.want (f ∷ s)) (sym (pushed_link v a s i)) ∙ q) (wants (linked c i l (leb-true n outer h) e r)))
-
-outer_sound : {aim : Aim} {s : List Frame} {ts us : List Lexeme} (op : Operator) (c : Span) (n a b : ℕ) (v : Expression) (to : State) →
-    Reads aim s ts → in_shape s ≡ true → IsOperand n (before op) (depth s) us a b v → (y : Bool) → nat_le n (left_at_most op) ≡ y
-    → shift op y v a s ≡ Some to →
-    Has aim to ((ts ++ us) ++ (tok (kind.sign op) c ∷ []))
-outer_sound implication c n a b v to r i e y h p = link_sound c n a b v to r i e y h p
-outer_sound {s = s} equivalence c n a b v to r i e y h p = let t = top_outer s i in
-    shift_sound equivalence c n a b v to r (omega arith) e y h p
-outer_sound {s = s} disjunction c n a b v to r i e y h p = let t = top_outer s i in
-    shift_sound disjunction c n a b v to r (omega arith) e y h p
-outer_sound {s = s} conjunction c n a b v to r i e y h p = let t = top_outer s i in
-    shift_sound conjunction c n a b v to r (omega arith) e y h p
-outer_sound {s = s} equation c n a b v to r i e y h p = let t = top_outer s i in shift_sound equation c n a b v to r (omega arith) e y h p
-outer_sound {s = s} inequation c n a b v to r i e y h p = let t = top_outer s i in
-    shift_sound inequation c n a b v to r (omega arith) e y h p
-
 op_most : (op : Operator) → op_level op ≤ bare
 op_most op = let h = op_below op in omega arith
 
@@ -149,49 +121,79 @@ and_no true true e = cc
 and_no true false e = inr refl
 and_no false b e = inl refl
 
-place_cases : {A : Type 0} (op : Operator) (n : ℕ) (b : Bool) (h : Head) (x y : Option State) (to : State)
+place_cases : {A : Type 0} {b c : Bool} {x y : Option State} {to : State} (op : Operator) (n : ℕ) (h : Head)
     → nat_le n (left_at_most op) ≡ b →
     ((b ≡ true) → op_level op ≤ room h → x ≡ Some to → A) → (Ends (before op) n (room h) → y ≡ Some to → A) →
-    (c : Bool) → (b && nat_le (op_level op) (room h)) ≡ c → cond c x y ≡ Some to → A
-place_cases op n b h x y to e f g true i p = let (t, u) = and_yes b (nat_le (op_level op) (room h)) i in
+    (b && nat_le (op_level op) (room h)) ≡ c → cond c x y ≡ Some to → A
+place_cases {b = b} {c = true} op n h e f g i p = let (t, u) = and_yes b (nat_le (op_level op) (room h)) i in
     f t (leb-true (op_level op) (room h) u) p
-place_cases op n b h x y to e f g false i p =
+place_cases {b = b} {c = false} op n h e f g i p =
     let k : (b ≡ false) ⊎ (nat_le (op_level op) (room h) ≡ false) → Ends (before op) n (room h) =
     elim [ inl t ↦ inr (leb-false n (left_at_most op) (e ∙ t)) | inr u ↦ inl (leb-false (op_level op) (room h) u) ] in
     g (k (and_no b (nat_le (op_level op) (room h)) i)) p
 
-place_sound : {aim : Aim} {s : List Frame} {ts : List Lexeme} → Reads aim s ts
-    → (us : List Lexeme) (op : Operator) (c : Span) (n a b : ℕ) (v : Expression) (to : State) →
-    IsOperand n (before op) (depth s) us a b v → Fits n (top s) → (y : Bool) → nat_le n (left_at_most op) ≡ y
-    → place op y v a b s ≡ Some to →
-    Has aim to ((ts ++ us) ++ (tok (kind.sign op) c ∷ []))
-unfolding place
-place_sound bottom us op c n a b v to e f y h p = shift_sound op c n a b v to bottom (op_most op) e y h p
-place_sound outlined us op c n a b v to e f y h p = outer_sound op c n a b v to outlined refl e y h p
-place_sound (linked d i l m w r) us op c n a b v to e f y h p = outer_sound op c n a b v to (linked d i l m w r) refl e y h p
-place_sound (opened d l r) us op c n a b v to e f y h p = shift_sound op c n a b v to (opened d l r) (op_most op) e y h p
-place_sound (argued d l w r) us op c n a b v to e f y h p = shift_sound op c n a b v to (argued d l w r) (op_most op) e y h p
-place_sound (headed {s = s} {ts = ts} {us = ws} {h = k} begins fit r) us op c n a b v to e f y h p =
-    place_cases op n y k _ _ to h
-    (λ t m q. shift_sound op c n a b v to (headed begins fit r) m e true (h ∙ t) q)
-    (λ i q. rw (append_assoc ts ws us) (place_sound r (ws ++ us) op c (level k) (begin k) b (governing k v b) to (governed begins f i e) fit
-    (nat_le (level k) (left_at_most op)) refl q))
-    (y && nat_le (op_level op) (room k)) refl p
+-- what the operator at c makes of an operand that stands behind the frames
+module _ (c : Span) (to : State) where
+  shift_sound : {aim : Aim} {s : List Frame} {ts us : List Lexeme} {n a b : ℕ} {v : Expression} (op : Operator) → Reads aim s ts
+      → op_level op ≤ top s → IsOperand n (before op) (depth s) us a b v → (y : Bool) → nat_le n (left_at_most op) ≡ y
+      → shift op y v a s ≡ Some to →
+      Has aim to ((ts ++ us) ++ (tok (kind.sign op) c ∷ []))
+  shift_sound op r m e false h p = cc
+  shift_sound {s = s} {n = n} {a = a} {v = v} op r m e true h p =
+      let (l, q) = within_some (depth s) (at mode.want (pushed op v a s ∷ s)) to p in
+      rw append_assoc (moved (ap (λ f. at mode.want (f ∷ s)) (sym (pushed_head op v a s m))
+      ∙ q) (wants (headed (left c e (leb-true n (left_at_most op) h) l) (inl m) r)))
+
+  link_sound : {aim : Aim} {s : List Frame} {ts us : List Lexeme} {n a b : ℕ} {v : Expression} → Reads aim s ts → in_shape s ≡ true
+      → IsOperand n (before implication) (depth s) us a b v → (y : Bool) → nat_le n outer ≡ y → shift implication y v a s ≡ Some to →
+      Has aim to ((ts ++ us) ++ (tok (kind.sign implication) c ∷ []))
+  link_sound r i e false h p = cc
+  link_sound {s = s} {n = n} {a = a} {v = v} r i e true h p =
+      let (l, q) = within_some (depth s) (at mode.want (pushed implication v a s ∷ s)) to p in
+      rw append_assoc (moved (ap (λ f. at mode.want (f ∷ s)) (sym (pushed_link v a s i))
+      ∙ q) (wants (linked c i l (leb-true n outer h) e r)))
+
+  outer_sound : {aim : Aim} {s : List Frame} {ts us : List Lexeme} {n a b : ℕ} {v : Expression} (op : Operator) → Reads aim s ts
+      → in_shape s ≡ true → IsOperand n (before op) (depth s) us a b v → (y : Bool) → nat_le n (left_at_most op) ≡ y
+      → shift op y v a s ≡ Some to →
+      Has aim to ((ts ++ us) ++ (tok (kind.sign op) c ∷ []))
+  outer_sound implication r i e y h p = link_sound r i e y h p
+  outer_sound {s = s} equivalence r i e y h p = let t = top_outer s i in shift_sound equivalence r (omega arith) e y h p
+  outer_sound {s = s} disjunction r i e y h p = let t = top_outer s i in shift_sound disjunction r (omega arith) e y h p
+  outer_sound {s = s} conjunction r i e y h p = let t = top_outer s i in shift_sound conjunction r (omega arith) e y h p
+  outer_sound {s = s} equation r i e y h p = let t = top_outer s i in shift_sound equation r (omega arith) e y h p
+  outer_sound {s = s} inequation r i e y h p = let t = top_outer s i in shift_sound inequation r (omega arith) e y h p
+
+  place_sound : {aim : Aim} {s : List Frame} {ts us : List Lexeme} {n a b : ℕ} {v : Expression} (op : Operator) → Reads aim s ts
+      → IsOperand n (before op) (depth s) us a b v → Fits n (top s) → (y : Bool) → nat_le n (left_at_most op) ≡ y
+      → place op y v a b s ≡ Some to →
+      Has aim to ((ts ++ us) ++ (tok (kind.sign op) c ∷ []))
+  unfolding place
+  place_sound op bottom e f y h p = shift_sound op bottom (op_most op) e y h p
+  place_sound op outlined e f y h p = outer_sound op outlined refl e y h p
+  place_sound op (linked d i l m w r) e f y h p = outer_sound op (linked d i l m w r) refl e y h p
+  place_sound op (opened d l r) e f y h p = shift_sound op (opened d l r) (op_most op) e y h p
+  place_sound op (argued d l w r) e f y h p = shift_sound op (argued d l w r) (op_most op) e y h p
+  place_sound {us = us} {n = n} op (headed {ts = ts} {us = ws} {h = k} begins fit r) e f y h p =
+      place_cases op n k h
+      (λ t m q. shift_sound op (headed begins fit r) m e true (h ∙ t) q)
+      (λ i q. rw (append_assoc ts ws us) (place_sound op r (governed begins f i e) fit (nat_le (level k) (left_at_most op)) refl q))
+      refl p
 
 -- ---- a closing parenthesis
 
-close_sound : {aim : Aim} {s : List Frame} {ts : List Lexeme} → Reads aim s ts
-    → (us : List Lexeme) (d : Span) (n a b : ℕ) (v : Expression) (to : State) →
-    IsOperand n last (depth s) us a b v → Fits n (top s) → close v b d.to s ≡ Some to → Has aim to ((ts ++ us) ++ (tok kind.closing d ∷ []))
+close_sound : {aim : Aim} {s : List Frame} {ts us : List Lexeme} {n a b : ℕ} {v : Expression} (d : Span) (to : State) → Reads aim s ts
+    → IsOperand n last (depth s) us a b v → Fits n (top s) → close v b d.to s ≡ Some to
+    → Has aim to ((ts ++ us) ++ (tok kind.closing d ∷ []))
 unfolding close
-close_sound bottom us d n a b v to e f p = cc
-close_sound outlined us d n a b v to e f p = cc
-close_sound (linked c i l m w r) us d n a b v to e f p = cc
-close_sound (opened {s = s} {ts = ts} c l r) us d n a b v to e f p =
+close_sound d to bottom e f p = cc
+close_sound d to outlined e f p = cc
+close_sound d to (linked c i l m w r) e f p = cc
+close_sound {us = us} {v = v} d to (opened {s = s} {ts = ts} c l r) e f p =
     rw (append_assoc ts (tok kind.opening c ∷ []) us, append_assoc ts (tok kind.opening c ∷ us) (tok kind.closing d ∷ []))
     (moved {ts = ts ++ ((tok kind.opening c ∷ us) ++ (tok kind.closing d ∷ []))} (some_out (at (mode.after v c.from d.to) s) to p)
     (stands r (λ g. enclosed c d l e)))
-close_sound (argued {s = s} {ts = ts} {us = ws} {x = x} {ys = ys} c l w r) us d n a b v to e f p =
+close_sound {us = us} {v = v} d to (argued {s = s} {ts = ts} {us = ws} {x = x} {ys = ys} c l w r) e f p =
     rw (
       append_assoc ts (ws ++ (tok kind.opening c ∷ [])) us,
       append_assoc ts ((ws ++ (tok kind.opening c ∷ [])) ++ us) (tok kind.closing d ∷ []),
@@ -200,8 +202,8 @@ close_sound (argued {s = s} {ts = ts} {us = ws} {x = x} {ys = ys} c l w r) us d 
     )
     (moved {ts = ts ++ (ws ++ ((tok kind.opening c ∷ us) ++ (tok kind.closing d ∷ [])))}
     (some_out (at (mode.applying x (ys ++ (v ∷ [])) d.to) s) to p) (applies r (to_expression c d w l e)))
-close_sound (headed {s = s} {ts = ts} {us = ws} {h = k} begins fit r) us d n a b v to e f p =
-    rw (append_assoc ts ws us) (close_sound r (ws ++ us) d (level k) (begin k) b (governing k v b) to (governed begins f tt e) fit p)
+close_sound {us = us} d to (headed {ts = ts} {us = ws} begins fit r) e f p =
+    rw (append_assoc ts ws us) (close_sound d to r (governed begins f tt e) fit p)
 
 -- ---- each token
 
@@ -215,9 +217,9 @@ tilde_step c to r false e p = cc
 behind_sound : {aim : Aim} {s : List Frame} {ts us : List Lexeme} {a b : ℕ} {v : Expression} → Reads aim s ts
     → ((g : Next) → IsOperand 0 g (depth s) us a b v) →
     (k : Kind) (c : Span) (to : State) → behind v a b s k c ≡ Some to → Has aim to ((ts ++ us) ++ (tok k c ∷ []))
-behind_sound {us = us} {a = a} {b = b} {v = v} r e (kind.sign op) c to p =
-    place_sound r us op c 0 a b v to (e (before op)) (inl (omega arith)) true (le-leb 0 (left_at_most op) (omega arith)) p
-behind_sound {us = us} {a = a} {b = b} {v = v} r e kind.closing c to p = close_sound r us c 0 a b v to (e last) (inl (omega arith)) p
+behind_sound r e (kind.sign op) c to p =
+    place_sound c to op r (e (before op)) (inl (omega arith)) true (le-leb 0 (left_at_most op) (omega arith)) p
+behind_sound r e kind.closing c to p = close_sound c to r (e last) (inl (omega arith)) p
 behind_sound r e _ c to p = cc
 
 test_none : (b : Bool) (m : Option State) (to : State) → cond b None m ≡ Some to → b ≡ false
@@ -272,14 +274,13 @@ step_sound (group_names {s = s} {m = m} {k = k} {gs = gs} {xs = xs} q a b r g l 
     simp append_assoc (moved (ap (λ j. at (mode.in_group (binder q a.from gs j) (xs ++ (named x c ∷ []))) s) (sym (add_assoc m k 1))
     ∙ e) (group_names q a b r g l (more x c ns (omega arith))))
 step_sound (group_names {xs = xs} q a b r gs l ns) kind.colon c to p = let (h, e) = test_some (nat_lt 0 (length xs)) _ to p in
-    simp append_assoc (moved e (group_colon q a b c r gs ns (ltb-true 0 (length xs) h)))
+    simp append_assoc (moved e (group_colon q a b c r (record { groups = gs; names = ns; some = ltb-true 0 (length xs) h })))
 step_sound (group_names q a b r gs l ns) _ c to p = cc
-step_sound (group_colon q a b d r gs ns h) (kind.name x) c to p =
-    simp append_assoc (moved (some_out _ to p) (group_sorted q a b d c x r gs ns h))
-step_sound (group_colon q a b d r gs ns h) _ c to p = cc
-step_sound (group_sorted q a b d e sort r gs ns h) kind.closing c to p =
-    simp append_assoc (moved (some_out _ to p) (with_groups q a r (close_group gs (grouped b d e c sort ns h))))
-step_sound (group_sorted q a b d e sort r gs ns h) _ c to p = cc
+step_sound (group_colon q a b d r g) (kind.name x) c to p = simp append_assoc (moved (some_out _ to p) (group_sorted q a b d c x r g))
+step_sound (group_colon q a b d r g) _ c to p = cc
+step_sound (group_sorted q a b d e sort r g) kind.closing c to p =
+    simp append_assoc (moved (some_out _ to p) (with_groups q a r (close_group g.groups (grouped b d e c sort g.names g.some))))
+step_sound (group_sorted q a b d e sort r g) _ c to p = cc
 step_sound (with_groups {s = s} {k = k} {gs = gs} q a r g) kind.opening c to p =
     let (h, e) = within_some (depth s + k + 1) _ to p in
     simp append_assoc (moved (ap (λ j. at (mode.in_group (binder q a.from gs j) []) s) (add-zero k)
@@ -335,23 +336,21 @@ chain_sound (opened c l r) us t to e p = cc
 chain_sound (argued c l w r) us t to e p = cc
 chain_sound (headed begins fit r) us t to e p = cc
 
-whole_sound : {aim : Aim} {s : List Frame} {ts : List Lexeme} → Reads aim s ts
-    → (us : List Lexeme) (n a b : ℕ) (v : Expression) (to : Phrase) →
-    IsOperand n last (depth s) us a b v → Fits n (top s) → whole v b s ≡ Some to → Found aim (ts ++ us) to
+whole_sound : {aim : Aim} {s : List Frame} {ts us : List Lexeme} {n a b : ℕ} {v : Expression} (to : Phrase) → Reads aim s ts
+    → IsOperand n last (depth s) us a b v → Fits n (top s) → whole v b s ≡ Some to → Found aim (ts ++ us) to
 unfolding whole chain
-whole_sound bottom us n a b v to e f p = found_moved p (expression_found e)
-whole_sound outlined us n a b v to e f p = chain_sound outlined us (made.plain v) to (plain e f) p
-whole_sound (linked c i l m w r) us n a b v to e f p = chain_sound (linked c i l m w r) us (made.plain v) to (plain e f) p
-whole_sound (opened c l r) us n a b v to e f p = cc
-whole_sound (argued c l w r) us n a b v to e f p = cc
-whole_sound (headed {s = s} {ts = ts} {us = ws} {h = k} begins fit r) us n a b v to e f p =
-    rw (append_assoc ts ws us) (whole_sound r (ws ++ us) (level k) (begin k) b (governing k v b) to (governed begins f tt e) fit p)
+whole_sound to bottom e f p = found_moved p (expression_found e)
+whole_sound {us = us} {v = v} to outlined e f p = chain_sound outlined us (made.plain v) to (plain e f) p
+whole_sound {us = us} {v = v} to (linked c i l m w r) e f p = chain_sound (linked c i l m w r) us (made.plain v) to (plain e f) p
+whole_sound to (opened c l r) e f p = cc
+whole_sound to (argued c l w r) e f p = cc
+whole_sound {us = us} to (headed {ts = ts} {us = ws} begins fit r) e f p =
+    rw (append_assoc ts ws us) (whole_sound to r (governed begins f tt e) fit p)
 
 result_sound : {aim : Aim} {st : State} {ts : List Lexeme} → Has aim st ts → (to : Phrase) → result st.mode st.stack ≡ Some to
     → Found aim ts to
-result_sound (applies {us = us} {x = x} {ys = ys} {to = to} r w) t p =
-    whole_sound r us 0 x.span.from to (application x ys to) t (applied w) (inl (omega arith)) p
-result_sound (stands {us = us} {a = a} {b = b} {v = v} r e) t p = whole_sound r us 0 a b v t (e last) (inl (omega arith)) p
+result_sound (applies r w) t p = whole_sound t r (applied w) (inl (omega arith)) p
+result_sound (stands r e) t p = whole_sound t r (e last) (inl (omega arith)) p
 result_sound (shaped {us = us} {t = t} r i e) to p = chain_sound r us t to e p
 result_sound _ t p = cc
 

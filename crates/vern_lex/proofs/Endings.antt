@@ -155,10 +155,10 @@ module _ (text : List ℕ) (s : Span) where
       ap stops (drop_more (outside text) k 0 (omega (arith, h, length-outside text)))
       ∙ ap (λ b. stops (b ∷ drop (k + 1) (outside text))) i.full_stop ∙ followed_stops (drop (k + 1) (outside text)) i.followed
 
-  to_full_stop : s.from < s.to → s.to ≤ length text → is_brace first_byte ≡ false → is_bullet first_byte ≡ false
-      → (y : ℕ) (ys : List ℕ) → drop (first_place stops behind_first) behind_first ≡ y ∷ ys → y ≡ 46
+  to_full_stop : {y : ℕ} {ys : List ℕ} → s.from < s.to → s.to ≤ length text → is_brace first_byte ≡ false → is_bullet first_byte ≡ false
+      → drop (first_place stops behind_first) behind_first ≡ y ∷ ys → y ≡ 46
       → first_place stops behind_first + 1 ≡ s.to - s.from → IsSpanToFullStop text s
-  to_full_stop some within no_brace no_bullet y ys d is count = record {
+  to_full_stop {ys = ys} some within no_brace no_bullet d is count = record {
     no_brace = no_brace;
     no_bullet = no_bullet;
     last = record { full_stop = byte; followed = ap is_blank_or_end follows ∙ stop_followed ys found };
@@ -231,7 +231,7 @@ module _ (text : List ℕ) (s : Span) where
               (Unclosed (s.from + first_place stops behind_first))) ≡ Ok (s.to - s.from) → IsWholeSentence text s
           by true v e =
               let count : first_place stops behind_first + 1 ≡ s.to - s.from = cc in
-              as_full_stop (to_full_stop some within t u y ys d (eqb-true y 46 v) count)
+              as_full_stop (to_full_stop some within t u d (eqb-true y 46 v) count)
           by false v e = absurd (cc)
 
       by : (t : Bool) → is_brace first_byte ≡ t → (u : Bool) → is_bullet first_byte ≡ u

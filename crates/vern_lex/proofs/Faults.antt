@@ -50,34 +50,34 @@ none_of false true z g s t = absurd (cc)
 none_of false false true g s t = absurd (cc)
 none_of false false false g s t = refl
 
-length_fault : (at b : ℕ) (text rest : List ℕ) (f : CutFault) → b ∷ rest ≡ drop at text → begins (b ∷ rest) ≡ true
-    → sentence_length at (b ∷ rest) ≡ Err f → IsFrom at text f
-length_fault at b text rest f d g e = by (is_brace b) refl (is_bullet b) refl e
-  where
-    by : (s : Bool) → is_brace b ≡ s → (t : Bool) → is_bullet b ≡ t
-        → (if s then Ok 1 else (if t then Ok (prefix_len (λ c. c == b) (b ∷ rest)) else length_to_full_stop at
-        (first_place stops (b ∷ rest)) (drop (first_place stops (b ∷ rest)) (b ∷ rest)))) ≡ Err f
-        → IsFrom at text f
-    by true s t u e = absurd (cc)
-    by false s true u e = absurd (cc)
-    by false s false u e = stop_fault at text (b ∷ rest) f d (none_of (is_gap b) (is_brace b) (is_bullet b) g s u) e
-
 abbrev bytes_from : ℕ → ℕ → Span
 bytes_from at n = record { from = at; to = at + n }
 
 past : (n : ℕ) → nat_le n 65536 ≡ false → 65536 < n
 past n h = grind (arith, nat_tests)
 
-limit_fault : (at b : ℕ) (text rest : List ℕ) (f : CutFault) → b ∷ rest ≡ drop at text → begins (b ∷ rest) ≡ true → (r : Result ℕ CutFault)
-    → sentence_length at (b ∷ rest) ≡ r → within_limit at r ≡ Err f → IsFrom at text f
-limit_fault at b text rest f d g (Err h) l e = let is : h ≡ f = cc in length_fault at b text rest f d g (l ∙ ap Err is)
-limit_fault at b text rest f d g (Ok n) l e = by (nat_le n 65536) refl e
-  where
-    by : (t : Bool) → nat_le n 65536 ≡ t → (if t then Ok (bytes_from at n) else Err (TooLong at)) ≡ Err f → IsFrom at text f
-    by true t e = absurd (cc)
-    by false t e =
-        let is : TooLong at ≡ f = cc in
-        subst (IsFrom at text) is (omega arith, (ap begins (sym d) ∙ g, (n, ap (sentence_length at) (sym d) ∙ l, past n t)))
+-- what a sentence's first byte says of the fault at it
+module _ (at b : ℕ) (text rest : List ℕ) (f : CutFault) (d : b ∷ rest ≡ drop at text) (g : begins (b ∷ rest) ≡ true) where
+  length_fault : sentence_length at (b ∷ rest) ≡ Err f → IsFrom at text f
+  length_fault e = by (is_brace b) refl (is_bullet b) refl e
+    where
+      by : (s : Bool) → is_brace b ≡ s → (t : Bool) → is_bullet b ≡ t
+          → (if s then Ok 1 else (if t then Ok (prefix_len (λ c. c == b) (b ∷ rest)) else length_to_full_stop at
+          (first_place stops (b ∷ rest)) (drop (first_place stops (b ∷ rest)) (b ∷ rest)))) ≡ Err f
+          → IsFrom at text f
+      by true s t u e = absurd (cc)
+      by false s true u e = absurd (cc)
+      by false s false u e = stop_fault at text (b ∷ rest) f d (none_of (is_gap b) (is_brace b) (is_bullet b) g s u) e
+
+  limit_fault : (r : Result ℕ CutFault) → sentence_length at (b ∷ rest) ≡ r → within_limit at r ≡ Err f → IsFrom at text f
+  limit_fault (Err h) l e = let is : h ≡ f = cc in length_fault (l ∙ ap Err is)
+  limit_fault (Ok n) l e = by (nat_le n 65536) refl e
+    where
+      by : (t : Bool) → nat_le n 65536 ≡ t → (if t then Ok (bytes_from at n) else Err (TooLong at)) ≡ Err f → IsFrom at text f
+      by true t e = absurd (cc)
+      by false t e =
+          let is : TooLong at ≡ f = cc in
+          subst (IsFrom at text) is (omega arith, (ap begins (sym d) ∙ g, (n, ap (sentence_length at) (sym d) ∙ l, past n t)))
 
 at_fault : (at : ℕ) (text xs : List ℕ) (f : CutFault) → xs ≡ drop at text → (0 < length xs → begins xs ≡ true)
     → sentence_at at xs ≡ Some (Err f) → IsFrom at text f

@@ -248,7 +248,7 @@ lone_some (x ∷ xs) k e = omega arith
 
 lone_begun : (xs : List ℕ) (k : TokenKind) → lone_kind xs ≡ Some k → begins (outside xs) ≡ true
 lone_begun [] k e = absurd (cc)
-lone_begun (b ∷ rest) k e = by (b == 45) refl (b == 43) refl (b == 42) refl (b == 123) refl (b == 125) refl
+lone_begun (b ∷ rest) k e = by refl refl refl refl refl
   where
     is : (c : ℕ) → is_gap c ≡ false → (c == 40) ≡ false → (b == c) ≡ true → begins (outside (b ∷ rest)) ≡ true
     is c gap other e =
@@ -262,14 +262,14 @@ lone_begun (b ∷ rest) k e = by (b == 45) refl (b == 43) refl (b == 42) refl (b
         ∙ ap (λ t. if t && length rest == 0 then Some LeftBrace else (if b == 125 && length rest == 0 then Some RightBrace else None)) v
         ∙ ap (λ t. if t && length rest == 0 then Some RightBrace else None) w
 
-    by : (s : Bool) → (b == 45) ≡ s → (t : Bool) → (b == 43) ≡ t → (u : Bool) → (b == 42) ≡ u → (v : Bool) → (b == 123) ≡ v → (w : Bool)
-        → (b == 125) ≡ w → begins (outside (b ∷ rest)) ≡ true
-    by true s t p u q v x w y = is 45 refl refl s
-    by false s true p u q v x w y = is 43 refl refl p
-    by false s false p true q v x w y = is 42 refl refl q
-    by false s false p false q true x w y = is 123 refl refl x
-    by false s false p false q false x true y = is 125 refl refl y
-    by false s false p false q false x false y =
+    by : {s t u v w : Bool} → (b == 45) ≡ s → (b == 43) ≡ t → (b == 42) ≡ u → (b == 123) ≡ v → (b == 125) ≡ w
+        → begins (outside (b ∷ rest)) ≡ true
+    by {s = true} s p q x y = is 45 refl refl s
+    by {s = false} {t = true} s p q x y = is 43 refl refl p
+    by {s = false} {t = false} {u = true} s p q x y = is 42 refl refl q
+    by {s = false} {t = false} {u = false} {v = true} s p q x y = is 123 refl refl x
+    by {s = false} {t = false} {u = false} {v = false} {w = true} s p q x y = is 125 refl refl y
+    by {s = false} {t = false} {u = false} {v = false} {w = false} s p q x y =
         let no_bullet : (b == 45 || b == 43 || b == 42) ≡ false = ap (λ t. t || b == 43 || b == 42) s ∙ ap (λ t. t || b == 42) p ∙ q in
         let nothing = none no_bullet x y in
         absurd (cc)

@@ -59,11 +59,11 @@ pub record IsBegun (text table : List ℕ) (place next second : ℕ) : Type 0 wh
   pub long : length table ≡ length text - place + 1
   pub each : (k : ℕ) → k ≤ length text - place → get_or table k 0 ≡ closers (drop (length text - k) text)
 
-pub table_grown : (text table rest : List ℕ) (place before next second here : ℕ) → IsBegun text table place next second → 0 < place
-    → before ≡ place - 1 → rest ≡ drop before text
+pub table_grown : {text table : List ℕ} {place next second : ℕ} (rest : List ℕ) (before here : ℕ)
+    → IsBegun text table place next second → 0 < place → before ≡ place - 1 → rest ≡ drop before text
     → here ≡ (if opens_comment rest then second - 1 else (if closes_comment rest then second + 1 else next))
     → IsBegun text (table ++ here ∷ []) before here next
-table_grown text table rest place before next second here i h b r e =
+table_grown {text = text} {table = table} {place = place} {next = next} {second = second} rest before here i h b r e =
     let one : before + 1 ≡ place = omega (arith, h, b) in
     let two : before + 2 ≡ place + 1 = omega (arith, one) in
     let after : next ≡ closers (drop 1 rest) = i.is_next ∙ ap (λ k. closers (drop k text)) (sym one)

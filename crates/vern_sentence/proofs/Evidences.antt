@@ -166,29 +166,29 @@ close_simple (argument x ys ∷ s) v a b to h e = moved e (record { mode = tt; f
 close_simple [] v a b to h e = cc
 close_simple _ v a b to h e = absurd h
 
-on_simple : (m : Mode) (s : List Frame) (k : Kind) (c : Span) (to : State) → SimpleMode m → SimpleFrames s → is_simple k ≡ true
-    → on m s k c ≡ Some to → IsSimple to
+on_simple : (m : Mode) (s : List Frame) (k : Kind) (c : Span) (to : State) → IsSimple (at m s) → is_simple k ≡ true → on m s k c ≡ Some to
+    → IsSimple to
 unfolding SimpleMode SimpleFrames
-on_simple want s (kind.name x) c to h f i e = moved e (record { mode = tt; frames = f })
-on_simple want s kind.opening c to h f i e = within_simple (depth s) _ to (record { mode = tt; frames = f }) e
-on_simple want s kind.closing c to h f i e = cc
-on_simple want s _ c to h f i e = cc
-on_simple (applying x ys b) s (kind.name y) c to h f i e = moved e (record { mode = tt; frames = f })
-on_simple (applying x ys b) s kind.opening c to h f i e = within_simple (depth s) _ to (record { mode = tt; frames = f }) e
-on_simple (applying x ys b) s kind.closing c to h f i e = close_simple s (application x ys b) b c.to to f e
-on_simple (applying x ys b) s _ c to h f i e = cc
-on_simple (after v a b) s kind.closing c to h f i e = close_simple s v b c.to to f e
-on_simple (after v a b) s (kind.name x) c to h f i e = cc
-on_simple (after v a b) s kind.opening c to h f i e = cc
-on_simple (after v a b) s _ c to h f i e = cc
-on_simple _ s k c to h f i e = absurd h
+on_simple want s (kind.name x) c to h i e = moved e (record { mode = tt; frames = h.frames })
+on_simple want s kind.opening c to h i e = within_simple (depth s) _ to (record { mode = tt; frames = h.frames }) e
+on_simple want s kind.closing c to h i e = cc
+on_simple want s _ c to h i e = cc
+on_simple (applying x ys b) s (kind.name y) c to h i e = moved e (record { mode = tt; frames = h.frames })
+on_simple (applying x ys b) s kind.opening c to h i e = within_simple (depth s) _ to (record { mode = tt; frames = h.frames }) e
+on_simple (applying x ys b) s kind.closing c to h i e = close_simple s (application x ys b) b c.to to h.frames e
+on_simple (applying x ys b) s _ c to h i e = cc
+on_simple (after v a b) s kind.closing c to h i e = close_simple s v b c.to to h.frames e
+on_simple (after v a b) s (kind.name x) c to h i e = cc
+on_simple (after v a b) s kind.opening c to h i e = cc
+on_simple (after v a b) s _ c to h i e = cc
+on_simple _ s k c to h i e = absurd h.mode
 
 over_is_simple : (ts : List Lexeme) (s z : State) → IsSimple s → over evidence (Some s) ts ≡ Some z → IsSimple z
 over_is_simple [] s z h e = moved e h
 over_is_simple (t ∷ ts) s z h e =
     split_over evidence (IsSimple z) (next_place evidence s t) ts z
     (λ y q p. let (i, w) = evidence_step (is_simple t.kind) (step s t) y q in
-    over_is_simple ts y z (on_simple s.mode s.stack t.kind t.span y h.mode h.frames i w) p) e
+    over_is_simple ts y z (on_simple s.mode s.stack t.kind t.span y h i w) p) e
 
 nowhere : Span
 nowhere = span 0 0

@@ -128,28 +128,29 @@ data Stage : State → Type 0 where
   opened : {st : State} → Bottom IsParenthesis st.stack → Stage st
   shut : (v : Expression) (a b : ℕ) → Stage (at (after v a b) [])
 
-shift_under : (P : Frame → Type 0) (op : Operator) (fits : Bool) (v : Expression) (a : ℕ) (s : List Frame) (to : State) → Bottom P s
-    → shift op fits v a s ≡ Some to → Bottom P to.stack
-shift_under P op fits v a s to h p = test_both (λ st. Bottom P st.stack) fits _ to
-    (λ e. within_some (λ st. Bottom P st.stack) (depth s) _ to (under P (pushed op v a s) s h) e) p
-
 by_test : (A : Type 0) (b : Bool) (x y : Option State) (to : State) → (x ≡ Some to → A) → (y ≡ Some to → A) → cond b x y ≡ Some to → A
 by_test A true x y to f g p = f p
 by_test A false x y to f g p = g p
 
-place_opened : (op : Operator) (fits : Bool) (v : Expression) (a b : ℕ) (s : List Frame) (to : State) → Bottom IsParenthesis s
-    → place op fits v a b s ≡ Some to → Bottom IsParenthesis to.stack
-unfolding place Bottom IsParenthesis
-place_opened op fits v a b [] to h p = absurd h
-place_opened op fits v a b (governor k ∷ []) to h p = absurd h
-place_opened op fits v a b (governor k ∷ g ∷ s) to h p =
-    by_test (Bottom IsParenthesis to.stack) (fits && nat_le (op_level op) (room k)) _ _ to
-    (λ e. shift_under IsParenthesis op true v a (governor k ∷ g ∷ s) to h e)
-    (λ e. place_opened op (nat_le (level k) (left_at_most op)) (governing k v b) (begin k) b (g ∷ s) to h e) p
-place_opened op fits v a b (parenthesis f ∷ s) to h p = shift_under IsParenthesis op fits v a (parenthesis f ∷ s) to h p
-place_opened op fits v a b (argument x ys ∷ s) to h p = shift_under IsParenthesis op fits v a (argument x ys ∷ s) to h p
-place_opened op fits v a b (outline ∷ s) to h p = shift_under IsParenthesis op fits v a (outline ∷ s) to h p
-place_opened op fits v a b (link w ∷ s) to h p = shift_under IsParenthesis op fits v a (link w ∷ s) to h p
+module _ (op : Operator) (to : State) where
+  shift_under : (P : Frame → Type 0) (fits : Bool) (v : Expression) (a : ℕ) (s : List Frame) → Bottom P s → shift op fits v a s ≡ Some to
+      → Bottom P to.stack
+  shift_under P fits v a s h p = test_both (λ st. Bottom P st.stack) fits _ to
+      (λ e. within_some (λ st. Bottom P st.stack) (depth s) _ to (under P (pushed op v a s) s h) e) p
+
+  place_opened : (fits : Bool) (v : Expression) (a b : ℕ) (s : List Frame) → Bottom IsParenthesis s → place op fits v a b s ≡ Some to
+      → Bottom IsParenthesis to.stack
+  unfolding place Bottom IsParenthesis
+  place_opened fits v a b [] h p = absurd h
+  place_opened fits v a b (governor k ∷ []) h p = absurd h
+  place_opened fits v a b (governor k ∷ g ∷ s) h p =
+      by_test (Bottom IsParenthesis to.stack) (fits && nat_le (op_level op) (room k)) _ _ to
+      (λ e. shift_under IsParenthesis true v a (governor k ∷ g ∷ s) h e)
+      (λ e. place_opened (nat_le (level k) (left_at_most op)) (governing k v b) (begin k) b (g ∷ s) h e) p
+  place_opened fits v a b (parenthesis f ∷ s) h p = shift_under IsParenthesis fits v a (parenthesis f ∷ s) h p
+  place_opened fits v a b (argument x ys ∷ s) h p = shift_under IsParenthesis fits v a (argument x ys ∷ s) h p
+  place_opened fits v a b (outline ∷ s) h p = shift_under IsParenthesis fits v a (outline ∷ s) h p
+  place_opened fits v a b (link w ∷ s) h p = shift_under IsParenthesis fits v a (link w ∷ s) h p
 
 staged : (x to : State) → Some x ≡ Some to → Stage x → Stage to
 staged x to p h = subst Stage (some_out x to p) h
@@ -169,7 +170,7 @@ close_opened v a b (link w ∷ s) to h p = cc
 step_opened : (st : State) (k : Lexeme) (to : State) → Bottom IsParenthesis st.stack → step st k ≡ Some to → Stage to
 step_opened st k to h p =
     on_keeps (λ s. Bottom IsParenthesis s) Stage (λ m s q. opened q) (λ m f s q. opened (under IsParenthesis f s q))
-    (λ op v a b s z q e. opened (place_opened op true v a b s z q e))
+    (λ op v a b s z q e. opened (place_opened op z true v a b s q e))
     (λ v a b s z q e. close_opened v a b s z q e) st.mode st.stack k.kind k.span to h p
 
 -- ---- behind the `)` an operator stands at the bottom
@@ -183,26 +184,27 @@ pushed_bottom conjunction v a = tt
 pushed_bottom equation v a = tt
 pushed_bottom inequation v a = tt
 
-shift_bottom : (op : Operator) (fits : Bool) (v : Expression) (a : ℕ) (to : State) → shift op fits v a [] ≡ Some to → Bottom IsHead to.stack
-shift_bottom op fits v a to p = test_both (λ st. Bottom IsHead st.stack) fits _ to
-    (λ e. within_some (λ st. Bottom IsHead st.stack) (depth []) _ to (pushed_bottom op v a) e) p
+module _ (op : Operator) (to : State) where
+  shift_bottom : (fits : Bool) (v : Expression) (a : ℕ) → shift op fits v a [] ≡ Some to → Bottom IsHead to.stack
+  shift_bottom fits v a p = test_both (λ st. Bottom IsHead st.stack) fits _ to
+      (λ e. within_some (λ st. Bottom IsHead st.stack) (depth []) _ to (pushed_bottom op v a) e) p
 
-place_passed : (op : Operator) (fits : Bool) (v : Expression) (a b : ℕ) (s : List Frame) (to : State) → Bottom IsHead s
-    → place op fits v a b s ≡ Some to → Bottom IsHead to.stack
-unfolding place Bottom IsHead
-place_passed op fits v a b [] to h p = absurd h
-place_passed op fits v a b (governor k ∷ []) to h p =
-    by_test (Bottom IsHead to.stack) (fits && nat_le (op_level op) (room k)) _ _ to
-    (λ e. shift_under IsHead op true v a (governor k ∷ []) to h e)
-    (λ e. shift_bottom op (nat_le (level k) (left_at_most op)) (governing k v b) (begin k) to e) p
-place_passed op fits v a b (governor k ∷ g ∷ s) to h p =
-    by_test (Bottom IsHead to.stack) (fits && nat_le (op_level op) (room k)) _ _ to
-    (λ e. shift_under IsHead op true v a (governor k ∷ g ∷ s) to h e)
-    (λ e. place_passed op (nat_le (level k) (left_at_most op)) (governing k v b) (begin k) b (g ∷ s) to h e) p
-place_passed op fits v a b (parenthesis f ∷ s) to h p = shift_under IsHead op fits v a (parenthesis f ∷ s) to h p
-place_passed op fits v a b (argument x ys ∷ s) to h p = shift_under IsHead op fits v a (argument x ys ∷ s) to h p
-place_passed op fits v a b (outline ∷ s) to h p = shift_under IsHead op fits v a (outline ∷ s) to h p
-place_passed op fits v a b (link w ∷ s) to h p = shift_under IsHead op fits v a (link w ∷ s) to h p
+  place_passed : (fits : Bool) (v : Expression) (a b : ℕ) (s : List Frame) → Bottom IsHead s → place op fits v a b s ≡ Some to
+      → Bottom IsHead to.stack
+  unfolding place Bottom IsHead
+  place_passed fits v a b [] h p = absurd h
+  place_passed fits v a b (governor k ∷ []) h p =
+      by_test (Bottom IsHead to.stack) (fits && nat_le (op_level op) (room k)) _ _ to
+      (λ e. shift_under op to IsHead true v a (governor k ∷ []) h e)
+      (λ e. shift_bottom (nat_le (level k) (left_at_most op)) (governing k v b) (begin k) e) p
+  place_passed fits v a b (governor k ∷ g ∷ s) h p =
+      by_test (Bottom IsHead to.stack) (fits && nat_le (op_level op) (room k)) _ _ to
+      (λ e. shift_under op to IsHead true v a (governor k ∷ g ∷ s) h e)
+      (λ e. place_passed (nat_le (level k) (left_at_most op)) (governing k v b) (begin k) b (g ∷ s) h e) p
+  place_passed fits v a b (parenthesis f ∷ s) h p = shift_under op to IsHead fits v a (parenthesis f ∷ s) h p
+  place_passed fits v a b (argument x ys ∷ s) h p = shift_under op to IsHead fits v a (argument x ys ∷ s) h p
+  place_passed fits v a b (outline ∷ s) h p = shift_under op to IsHead fits v a (outline ∷ s) h p
+  place_passed fits v a b (link w ∷ s) h p = shift_under op to IsHead fits v a (link w ∷ s) h p
 
 bottom_moved : (x to : State) → Some x ≡ Some to → Bottom IsHead x.stack → Bottom IsHead to.stack
 bottom_moved x to p h = subst (λ st. Bottom IsHead st.stack) (some_out x to p) h
@@ -222,12 +224,12 @@ close_passed v a b (link w ∷ s) to h p = cc
 step_passed : (st : State) (k : Lexeme) (to : State) → Bottom IsHead st.stack → step st k ≡ Some to → Bottom IsHead to.stack
 step_passed st k to h p =
     on_keeps (λ s. Bottom IsHead s) (λ z. Bottom IsHead z.stack) (λ m s q. q) (λ m f s q. under IsHead f s q)
-    (λ op v a b s z q e. place_passed op true v a b s z q e)
+    (λ op v a b s z q e. place_passed op z true v a b s q e)
     (λ v a b s z q e. close_passed v a b s z q e) st.mode st.stack k.kind k.span to h p
 
 after_shut : (v : Expression) (a b : ℕ) (k : Kind) (c : Span) (to : State) → on (after v a b) [] k c ≡ Some to → Bottom IsHead to.stack
 unfolding place close
-after_shut v a b (kind.sign op) c to p = shift_bottom op true v a to p
+after_shut v a b (kind.sign op) c to p = shift_bottom op to true v a p
 after_shut v a b kind.closing c to p = cc
 after_shut v a b _ c to p = cc
 
@@ -372,9 +374,10 @@ name_first (to_name {ts = ts} y d w) c us vs e = name_first w c us ((tok (kind.n
 name_first (to_expression {ts = ts} {us = ws} d f w l i) c us vs e =
     name_first w c us (((tok kind.opening d ∷ ws) ++ (tok kind.closing f ∷ [])) ++ vs) (sym (append_assoc ts _ vs) ∙ e)
 
-inside_here : (o n a b : ℕ) (t : Expression) (c d x : Span) (ts us vs : List Lexeme) → IsOperand n last (o + 1) ts a b t
+inside_here : {o n a b : ℕ} {t : Expression} {x : Span} {ts us : List Lexeme} (c d : Span) (vs : List Lexeme)
+    → IsOperand n last (o + 1) ts a b t
     → ((tok kind.opening c ∷ ts) ++ (tok kind.closing d ∷ [])) ++ vs ≡ tok kind.opening x ∷ us → Inside o us
-inside_here o n a b t c d x ts us vs e h = record {
+inside_here {n = n} {a = a} {b = b} {t = t} {ts = ts} {us = us} c d vs e h = record {
   inner = ts;
   rest = vs;
   closing = d;
@@ -390,7 +393,7 @@ inside_of : {n o a b : ℕ} {g : Next} {ts : List Lexeme} {t : Expression} → I
     → ts ++ vs ≡ tok kind.opening c ∷ us → Inside o us
 inside_of (constant v d) c us vs e = let h = same_first _ _ _ _ _ _ e in cc
 inside_of (applied w) c us vs e = absurd (name_first w c us vs e)
-inside_of {o = o} (enclosed {n = n} {from = a} {to = b} {ts = ts} {t = t} d f l i) c us vs e = inside_here o n a b t d f c ts us vs i e
+inside_of (enclosed d f l i) c us vs e = inside_here d f vs i e
 inside_of (governed {us = ws} (left {ts = ts} d i m l) f s r) c us vs e =
     inside_of i c us (((tok _ d) ∷ ws) ++ vs) (sym (append_assoc ts _ vs) ∙ ap (λ z. z ++ vs) (sym (append_assoc ts _ ws)) ∙ e)
 inside_of (governed (negating d l) f s r) c us vs e = let h = same_first _ _ _ _ _ _ e in cc

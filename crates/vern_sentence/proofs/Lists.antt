@@ -95,52 +95,51 @@ moved {x = x} {to = to} {ts = ts} e h = subst (λ y. HasRead y ts) (some_out x t
 regrouped : {to : GroupPlace} {ts us : List Lexeme} → ts ≡ us → HasRead to ts → HasRead to us
 regrouped {to = to} e h = subst (λ l. HasRead to l) e h
 
-one_name : {ts : List Lexeme} {gs : List Group} (xs : List Name) (x : Name) (a : Span) (to : GroupPlace) → AreGroups ts gs
-    → Some (inside gs (xs ++ (x ∷ []))) ≡ Some to →
-    HasRead to ((ts ++ (tok kind.opening a ∷ map spelled xs)) ++ (spelled x ∷ []))
-one_name {ts = ts} xs x a to w e =
-    regrouped (ap (λ l. ts ++ (tok kind.opening a ∷ l)) (map-append spelled xs (x ∷ []))
-    ∙ sym (append_assoc ts (tok kind.opening a ∷ map spelled xs) (spelled x ∷ []))) (moved e (read_names (xs ++ (x ∷ [])) a w))
+-- what stands behind the `(` at a, after whole groups
+module _ {ts : List Lexeme} {gs : List Group} (a : Span) (to : GroupPlace) (w : AreGroups ts gs) where
+  one_name : (xs : List Name) (x : Name) → Some (inside gs (xs ++ (x ∷ []))) ≡ Some to →
+      HasRead to ((ts ++ (tok kind.opening a ∷ map spelled xs)) ++ (spelled x ∷ []))
+  one_name xs x e =
+      regrouped (ap (λ l. ts ++ (tok kind.opening a ∷ l)) (map-append spelled xs (x ∷ []))
+      ∙ sym (append_assoc ts (tok kind.opening a ∷ map spelled xs) (spelled x ∷ []))) (moved e (read_names (xs ++ (x ∷ [])) a w))
 
-one_colon : {ts : List Lexeme} {gs : List Group} (xs : List Name) (a b : Span) (to : GroupPlace) → AreGroups ts gs
-    → cond (nat_lt 0 (length xs)) (Some (before_sort gs xs)) None ≡ Some to →
-    HasRead to ((ts ++ (tok kind.opening a ∷ map spelled xs)) ++ (tok kind.colon b ∷ []))
-one_colon [] a b to w e = cc
-one_colon {ts = ts} {gs = gs} (x ∷ xs) a b to w e =
-    regrouped (sym (append_assoc ts (tok kind.opening a ∷ map spelled (x ∷ xs)) (tok kind.colon b ∷ [])))
-    (moved (ap (λ y. cond y (Some (before_sort gs (x ∷ xs))) None) (sym (lt-ltb 0 (length (x ∷ xs)) (omega arith)))
-    ∙ e) (read_colon x xs a b w))
+  one_colon : (xs : List Name) (b : Span) → cond (nat_lt 0 (length xs)) (Some (before_sort gs xs)) None ≡ Some to →
+      HasRead to ((ts ++ (tok kind.opening a ∷ map spelled xs)) ++ (tok kind.colon b ∷ []))
+  one_colon [] b e = cc
+  one_colon (x ∷ xs) b e =
+      regrouped (sym (append_assoc ts (tok kind.opening a ∷ map spelled (x ∷ xs)) (tok kind.colon b ∷ [])))
+      (moved (ap (λ y. cond y (Some (before_sort gs (x ∷ xs))) None) (sym (lt-ltb 0 (length (x ∷ xs)) (omega arith)))
+      ∙ e) (read_colon x xs a b w))
 
-one_sort : {ts : List Lexeme} {gs : List Group} (x : Name) (xs : List Name) (sort : Name) (a b : Span) (to : GroupPlace) → AreGroups ts gs
-    → Some (behind_sort gs (x ∷ xs) sort) ≡ Some to →
-    HasRead to ((ts ++ (tok kind.opening a ∷ (map spelled (x ∷ xs) ++ (tok kind.colon b ∷ [])))) ++ (spelled sort ∷ []))
-one_sort {ts = ts} x xs sort a b to w e =
-    regrouped (ap (λ l. ts ++ (tok kind.opening a ∷ l))
-    (sym (append_assoc (map spelled (x ∷ xs)) (tok kind.colon b ∷ []) (spelled sort ∷ [])))
-    ∙ sym (append_assoc ts (tok kind.opening a ∷ (map spelled (x ∷ xs) ++ (tok kind.colon b ∷ []))) (spelled sort ∷ [])))
-    (moved e (read_sort x xs sort a b w))
+  one_sort : (x : Name) (xs : List Name) (b : Span) (sort : Name) → Some (behind_sort gs (x ∷ xs) sort) ≡ Some to →
+      HasRead to ((ts ++ (tok kind.opening a ∷ (map spelled (x ∷ xs) ++ (tok kind.colon b ∷ [])))) ++ (spelled sort ∷ []))
+  one_sort x xs b sort e =
+      regrouped (ap (λ l. ts ++ (tok kind.opening a ∷ l))
+      (sym (append_assoc (map spelled (x ∷ xs)) (tok kind.colon b ∷ []) (spelled sort ∷ [])))
+      ∙ sym (append_assoc ts (tok kind.opening a ∷ (map spelled (x ∷ xs) ++ (tok kind.colon b ∷ []))) (spelled sort ∷ [])))
+      (moved e (read_sort x xs sort a b w))
 
-one_group : {ts : List Lexeme} {gs : List Group} (x : Name) (xs : List Name) (sort : Name) (a b c : Span) (to : GroupPlace)
-    → AreGroups ts gs → Some (between (gs ++ (group (x ∷ xs) sort ∷ []))) ≡ Some to →
-    HasRead to ((ts ++ (tok kind.opening a ∷ (map spelled (x ∷ xs) ++ (tok kind.colon b ∷ spelled sort ∷ [])))) ++
-    (tok kind.closing c ∷ []))
-one_group {ts = ts} x xs sort a b c to w e =
-    regrouped (ap (λ l. ts ++ (tok kind.opening a ∷ l))
-    (sym (append_assoc (map spelled (x ∷ xs)) (tok kind.colon b ∷ spelled sort ∷ []) (tok kind.closing c ∷ [])))
-    ∙ sym (append_assoc ts (tok kind.opening a ∷ (map spelled (x ∷ xs) ++ (tok kind.colon b ∷ spelled sort ∷ [])))
-    (tok kind.closing c ∷ [])))
-    (moved e (read_between (more x xs sort a b c w)))
+  one_group : (x : Name) (xs : List Name) (b : Span) (sort : Name) (c : Span)
+      → Some (between (gs ++ (group (x ∷ xs) sort ∷ []))) ≡ Some to →
+      HasRead to ((ts ++ (tok kind.opening a ∷ (map spelled (x ∷ xs) ++ (tok kind.colon b ∷ spelled sort ∷ [])))) ++
+      (tok kind.closing c ∷ []))
+  one_group x xs b sort c e =
+      regrouped (ap (λ l. ts ++ (tok kind.opening a ∷ l))
+      (sym (append_assoc (map spelled (x ∷ xs)) (tok kind.colon b ∷ spelled sort ∷ []) (tok kind.closing c ∷ [])))
+      ∙ sym (append_assoc ts (tok kind.opening a ∷ (map spelled (x ∷ xs) ++ (tok kind.colon b ∷ spelled sort ∷ [])))
+      (tok kind.closing c ∷ [])))
+      (moved e (read_between (more x xs sort a b c w)))
 
 group_step : {s : GroupPlace} {ts : List Lexeme} → HasRead s ts → (k : Kind) (c : Span) (to : GroupPlace) → on_group s (tok k c) k ≡ Some to
     → HasRead to (ts ++ (tok k c ∷ []))
 group_step (read_between w) kind.opening c to e = moved e (read_names [] c w)
 group_step (read_between w) _ c to e = cc
-group_step (read_names xs a w) (kind.name x) c to e = one_name xs (named x c) a to w e
-group_step (read_names xs a w) kind.colon c to e = one_colon xs a c to w e
+group_step (read_names xs a w) (kind.name x) c to e = one_name a to w xs (named x c) e
+group_step (read_names xs a w) kind.colon c to e = one_colon a to w xs c e
 group_step (read_names xs a w) _ c to e = cc
-group_step (read_colon x xs a b w) (kind.name y) c to e = one_sort x xs (named y c) a b to w e
+group_step (read_colon x xs a b w) (kind.name y) c to e = one_sort a to w x xs b (named y c) e
 group_step (read_colon x xs a b w) _ c to e = cc
-group_step (read_sort x xs sort a b w) kind.closing c to e = one_group x xs sort a b c to w e
+group_step (read_sort x xs sort a b w) kind.closing c to e = one_group a to w x xs b sort c e
 group_step (read_sort x xs sort a b w) _ c to e = cc
 
 group_reads : (us : List Lexeme) {s : GroupPlace} {ts : List Lexeme} → HasRead s ts → (to : GroupPlace) → over groups (Some s) us ≡ Some to

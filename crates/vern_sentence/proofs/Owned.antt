@@ -40,22 +40,25 @@ pair_no_name : (a b : ℕ) → NoneOrNot (pair_kind a b)
 pair_no_name a b = pair_by (b == 61 && a == 58) (b == 62 && a == 45) (b == 45 && a == 60) (b == 62 && a == 60) (b == 92 && a == 47)
     (b == 47 && a == 92)
 
-single_by : (a b c d e f g h i : Bool) → NotName (if a then token.LeftParenthesis else
-    (if b then token.RightParenthesis else (if c then token.LeftBracket else (if d then token.RightBracket else (if e then token.Colon
-    else (if f then token.Comma else (if g then token.Not else (if h then token.Equal else (if i then token.Bar else token.Stray)))))))))
-single_by true b c d e f g h i = tt
-single_by false true c d e f g h i = tt
-single_by false false true d e f g h i = tt
-single_by false false false true e f g h i = tt
-single_by false false false false true f g h i = tt
-single_by false false false false false true g h i = tt
-single_by false false false false false false true h i = tt
-single_by false false false false false false false true i = tt
-single_by false false false false false false false false true = tt
-single_by false false false false false false false false false = tt
+mark_by : (e f g h i : Bool) → NotName (if e then token.Colon else
+    (if f then token.Comma else (if g then token.Not else (if h then token.Equal else (if i then token.Bar else token.Stray)))))
+mark_by true f g h i = tt
+mark_by false true g h i = tt
+mark_by false false true h i = tt
+mark_by false false false true i = tt
+mark_by false false false false true = tt
+mark_by false false false false false = tt
+
+single_by : (a b c d : Bool) (k : TokenKind) → NotName k → NotName (if a then token.LeftParenthesis else
+    (if b then token.RightParenthesis else (if c then token.LeftBracket else (if d then token.RightBracket else k))))
+single_by true b c d k h = tt
+single_by false true c d k h = tt
+single_by false false true d k h = tt
+single_by false false false true k h = tt
+single_by false false false false k h = h
 
 single_no_name : (a : ℕ) → NotName (single_kind a)
-single_no_name a = single_by (a == 40) (a == 41) (a == 91) (a == 93) (a == 58) (a == 44) (a == 126) (a == 61) (a == 124)
+single_no_name a = single_by (a == 40) (a == 41) (a == 91) (a == 93) _ (mark_by (a == 58) (a == 44) (a == 126) (a == 61) (a == 124))
 
 abbrev sign_by : ℕ → ℕ → Option TokenKind → Token
 sign_by at a o = elim o [ Some kind ↦ token_of at kind 2 | None ↦ token_of at (single_kind a) 1 ]

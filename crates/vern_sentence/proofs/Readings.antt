@@ -68,40 +68,41 @@ at_choice p q k ks b = if b then reading p ks else reading q (k ∷ ks)
 abbrev pub at_name : (Name → Pattern) → Lexeme → List Lexeme → Option Name → Result Sentence (List Lexeme)
 at_name f k ks m = and_then (name_at k ks m) (λ w. reading (f w.0) w.1)
 
-sign_sound : (s : Sign) (p : Pattern) (k : Lexeme) (ks : List Lexeme) (b : Bool) (t : Sentence) → is_sign s k.kind ≡ b
-    → (reading p ks ≡ Ok t → Reads p ks t) → at_sign p k ks b ≡ Ok t → Reads (fixed s p) (k ∷ ks) t
-sign_sound s p k ks true t h f e = subst (λ j. Reads (fixed s p) (j ∷ ks) t) (sym (sign_is s k h)) (sign_reads k.span (f e))
-sign_sound s p k ks false t h f e = cc
+module _ (k : Lexeme) (ks : List Lexeme) (t : Sentence) where
+  sign_sound : (s : Sign) (p : Pattern) (b : Bool) → is_sign s k.kind ≡ b → (reading p ks ≡ Ok t → Reads p ks t) → at_sign p k ks b ≡ Ok t
+      → Reads (fixed s p) (k ∷ ks) t
+  sign_sound s p true h f e = subst (λ j. Reads (fixed s p) (j ∷ ks) t) (sym (sign_is s k h)) (sign_reads k.span (f e))
+  sign_sound s p false h f e = cc
 
-choice_sound : (s : Sign) (p q : Pattern) (k : Lexeme) (ks : List Lexeme) (b : Bool) (t : Sentence) →
-    is_sign s k.kind ≡ b → (reading p ks ≡ Ok t → Reads p ks t) → (reading q (k ∷ ks) ≡ Ok t → Reads q (k ∷ ks) t)
-    → at_choice p q k ks b ≡ Ok t → Reads (option s p q) (k ∷ ks) t
-choice_sound s p q k ks true t h f g e = subst (λ j. Reads (option s p q) (j ∷ ks) t) (sym (sign_is s k h)) (takes k.span (f e))
-choice_sound s p q k ks false t h f g e = passes (g e)
+  choice_sound : (s : Sign) (p q : Pattern) (b : Bool) →
+      is_sign s k.kind ≡ b → (reading p ks ≡ Ok t → Reads p ks t) → (reading q (k ∷ ks) ≡ Ok t → Reads q (k ∷ ks) t)
+      → at_choice p q k ks b ≡ Ok t → Reads (option s p q) (k ∷ ks) t
+  choice_sound s p q true h f g e = subst (λ j. Reads (option s p q) (j ∷ ks) t) (sym (sign_is s k h)) (takes k.span (f e))
+  choice_sound s p q false h f g e = passes (g e)
 
-name_sound : (k : Lexeme) (ks : List Lexeme) (f : Name → Pattern) (m : Option Name) (t : Sentence) → name_of k ≡ m
-    → ((x : Name) → reading (f x) ks ≡ Ok t → Reads (f x) ks t) → at_name f k ks m ≡ Ok t → Reads (name f) (k ∷ ks) t
-name_sound k ks f None t h g e = cc
-name_sound k ks f (Some x) t h g e = subst (λ j. Reads (name f) (j ∷ ks) t) (sym (name_is k x h)) (name_reads x (g x e))
+  name_sound : (f : Name → Pattern) (m : Option Name) → name_of k ≡ m → ((x : Name) → reading (f x) ks ≡ Ok t → Reads (f x) ks t)
+      → at_name f k ks m ≡ Ok t → Reads (name f) (k ∷ ks) t
+  name_sound f None h g e = cc
+  name_sound f (Some x) h g e = subst (λ j. Reads (name f) (j ∷ ks) t) (sym (name_is k x h)) (name_reads x (g x e))
 
-part_sound : (i : Slot) (f : Tree i → Pattern) (ts : List Lexeme) (w : Place i × List Lexeme) (m : Option (Tree i)) (t : Sentence)
+part_sound : (i : Slot) {ts : List Lexeme} {w : Place i × List Lexeme} (f : Tree i → Pattern) (m : Option (Tree i)) (t : Sentence)
     → CutAt i (first_place i) ts w →
     tree_at i w.0 ≡ m → ((x : Tree i) → reading (f x) w.1 ≡ Ok t → Reads (f x) w.1 t) → at_tree i f w.1 m ≡ Ok t → Reads (slot i f) ts t
-part_sound i f ts w None t c h g e = cc
-part_sound i f ts w (Some x) t c h g e = subst (λ l. Reads (slot i f) l t) (sym c.split)
+part_sound i f None t c h g e = cc
+part_sound i {w = w} f (Some x) t c h g e = subst (λ l. Reads (slot i f) l t) (sym c.split)
     (part_reads c.front x (part_whole i c.front w.0 x c.ran h) (g x e))
 
 pub sound : (p : Pattern) (ts : List Lexeme) (t : Sentence) → reading p ts ≡ Ok t → Reads p ts t
 sound (done u) [] t e = subst (λ x. Reads (done u) [] x) (read_out u t e) done_reads
 sound (done u) (k ∷ ks) t e = cc
 sound (fixed s p) [] t e = cc
-sound (fixed s p) (k ∷ ks) t e = sign_sound s p k ks (is_sign s k.kind) t refl (λ h. sound p ks t h) e
+sound (fixed s p) (k ∷ ks) t e = sign_sound k ks t s p (is_sign s k.kind) refl (λ h. sound p ks t h) e
 sound (name f) [] t e = cc
-sound (name f) (k ∷ ks) t e = name_sound k ks f (name_of k) t refl (λ x h. sound (f x) ks t h) e
-sound (slot i f) ts t e = part_sound i f ts (cut i (first_place i) ts) (tree_at i (cut i (first_place i) ts).0) t
+sound (name f) (k ∷ ks) t e = name_sound k ks t f (name_of k) refl (λ x h. sound (f x) ks t h) e
+sound (slot i f) ts t e = part_sound i f (tree_at i (cut i (first_place i) ts).0) t
     (cut_is i ts (first_place i)) refl (λ x h. sound (f x) (cut i (first_place i) ts).1 t h) e
 sound (option s p q) [] t e = passes (sound q [] t e)
-sound (option s p q) (k ∷ ks) t e = choice_sound s p q k ks (is_sign s k.kind) t refl (λ h. sound p ks t h) (λ h. sound q (k ∷ ks) t h) e
+sound (option s p q) (k ∷ ks) t e = choice_sound k ks t s p q (is_sign s k.kind) refl (λ h. sound p ks t h) (λ h. sound q (k ∷ ks) t h) e
 
 -- ---- each pattern reads something
 

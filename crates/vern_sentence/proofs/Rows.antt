@@ -80,10 +80,10 @@ plain_read [] t b w = absurd (no_evidence t (evidence_ran [] t w))
 plain_read (k ∷ ts) t b w = passed (arguing (λ t. made.rewrite t false)) (arguing (λ t. made.rewrite t true))
     (arguing (λ t. made.rewrite t false)) k (ts ++ (stop b ∷ [])) (evidence_simple w).0 ∙ argued (λ t. made.rewrite t false) (k ∷ ts) t b w
 
-assert_row : (text : List ℕ) (x : Name) (ts : List Lexeme) (t : Expression) (a b c e : Span) → IsPart enclosed ts t →
+assert_row : {t : Expression} (text : List ℕ) (x : Name) (ts : List Lexeme) (a b c e : Span) → IsPart enclosed ts t →
     IsSentence text (row.word (codes "assert") a ∷ tok kind.opening b ∷ spelled x ∷ tok kind.colon c ∷ (ts ++ (stop e ∷ [])))
     (made.refinement (made.assert x t))
-assert_row text x ts t a b c e (us, k, h, p, w) =
+assert_row {t = t} text x ts a b c e (us, k, h, p, w) =
     subst (λ l. IsSentence text (row.word (codes "assert") a ∷ tok kind.opening b ∷ spelled x ∷ tok kind.colon c ∷ l)
     (made.refinement (made.assert x t)))
     (sym (append_assoc us (tok kind.closing k.span ∷ []) (stop e ∷ []))
@@ -173,7 +173,7 @@ rows text a word.destruct (part_reads ts t w (takes b
 rows text a word.destruct (part_reads ts t w (passes (sign_reads b done_reads))) = row.destruct_none a b w
 rows text a word.exfalso (sign_reads b done_reads) = row.exfalso a b
 rows text a word.assert (sign_reads b (name_reads x (sign_reads c (part_reads ts t w (sign_reads e done_reads))))) =
-    assert_row text x ts t a b c e w
+    assert_row text x ts a b c e w
 rows text a word.clear (name_reads x (sign_reads b done_reads)) = row.clear x a b
 rows text a word.reflexivity (sign_reads b done_reads) = row.reflexivity a b
 rows text a word.symmetry (sign_reads b done_reads) = row.symmetry a b

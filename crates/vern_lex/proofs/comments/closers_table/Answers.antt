@@ -15,6 +15,5 @@ pub ends-preserved : goal.ends-preserved
 ends-preserved c =
     subst (λ table. IsBegun c.args.text.now table (c.ends.place - 1) c.closers_here-here.result c.ends.next)
     (sym c.in_ok-push-2.ensures.items)
-    (table_grown c.args.text.now c.ends.table.items c.split_at.result.1.now c.ends.place
-    (c.ends.place - 1) c.ends.next c.ends.second c.closers_here-here.result c.ends.invariant c.ends-test.true refl c.split_at.ensures.back
-    c.closers_here-here.ensures)
+    (table_grown c.split_at.result.1.now (c.ends.place - 1) c.closers_here-here.result c.ends.invariant c.ends-test.true refl
+    c.split_at.ensures.back c.closers_here-here.ensures)
