@@ -19,5 +19,8 @@ echo 'checking_times: step_core vern_step base_core anyhow' >>"$work/crates.txt"
 if [ -f "$top/HANDLES" ]; then cp "$top/HANDLES" "$work/"; fi
 
 cp "$top/benches/checking/main.txt" "$work/crates/checking_times/src/main.rt"
+mkdir -p "$work/crates/checking_times/proofs/time_form"
+: >"$work/crates/checking_times/proofs/Lib.antt"
+cp "$top/benches/checking/ledger.txt" "$work/crates/checking_times/proofs/time_form/Invariants.antt"
 (cd "$work/crates/checking_times" && rt run --jobs 1 >"$work/times" 2>"$work/log") || { cat "$work/log" >&2; exit 1; }
 cat "$work/times"
