@@ -54,7 +54,8 @@ module _ {T R : Type 0} where
     pub start-full : (ns : List ℕ) (places : ℕ) → ns ≡ replicate places nothing → Marks p (full (take 0 ss)) ns
     start-full ns places e = subst (λ ms. Marks p (full (take 0 ss)) ms) (sym e) (marks-none p (full (take 0 ss)) places refl)
 
-    pub step-full : (i place : ℕ) (s : Slot T R) (ns ns' : List ℕ) → Marks p (full (take i ss)) ns → place ≡ length (full (take i ss)) → length (full ss) ≤ length ns
-        → i < length ss → s ≡ get_or ss i s → is_full s ≡ true → ns' ≡ set ns place (key p s) → Marks p (full (take (i + 1) ss)) ns'
-    step-full i place s ns ns' m at few lt e f put =
-        rw (put, at, full-more i ss s lt e f) (marks-push p (full (take i ss)) s ns m (let less = full-less i ss s lt e f in omega (arith, less, few)))
+    module _ (i : ℕ) (s : Slot T R) (lt : i < length ss) (e : s ≡ get_or ss i s) (f : is_full s ≡ true) where
+      pub step-full : (place : ℕ) (ns ns' : List ℕ) → Marks p (full (take i ss)) ns → place ≡ length (full (take i ss))
+          → length (full ss) ≤ length ns → ns' ≡ set ns place (key p s) → Marks p (full (take (i + 1) ss)) ns'
+      step-full place ns ns' m at few put = rw (put, at, full-more i ss s lt e f)
+          (marks-push p (full (take i ss)) s ns m (let less = full-less i ss s lt e f in omega (arith, less, few)))

@@ -31,6 +31,13 @@ all-push P (x ∷ xs) b a p = (a.0, all-push P xs b a.1 p)
 pub on-ok : {X E : Type 0} (P : Type 0) (r : Result X E) (x : X) → r ≡ Ok x → OnOk r P → P
 on-ok P r x e h = subst (λ q. OnOk q P) e h
 
+-- there is room for more rows behind so many slots
+pub record HasRoom {S : Type 0} (count room capacity : ℕ) (ws ls : List ℕ) (bs : HashMap ℕ ℕ S) : Type 0 where
+  pub slots_room : count + room ≤ capacity
+  pub waiting_room : count + room ≤ length ws
+  pub left_room : count + room ≤ length ls
+  pub blocks_room : room ≤ spare bs
+
 module _ {T R : Type 0} where
   abbrev pub blocks_of : List (Row T R) → List ℕ
   blocks_of rows = map (λ r. r.block) rows
@@ -106,24 +113,31 @@ module _ {T R : Type 0} where
     | Some v ↦ λ all. of-slot P i xs s w h e all.1
   ]) all
 
-  rows-emptied : (i : ℕ) (ss : List (Slot T R)) (s : Slot T R) (w : T) (block : ℕ) → slice_get ss i ≡ Some s → s.work ≡ Some w → s.block ≡ block → IsDistinct nat_eq (blocks_of (rows_of ss))
-      → rows_of (set ss i (emptied s)) ≡ without_block block (rows_of ss)
-  unfolding IsDistinct
-  rows-emptied i [] s w block h e b d = absurd (let clash : None ≡ Some s = h in cc)
-  rows-emptied zero (x ∷ xs) s w block h e b d =
-      let same : x ≡ s = cc in
-      let work : x.work ≡ Some w = ap (λ (y : Slot T R). y.work) same ∙ e in
-      let its : nat_eq block x.block ≡ true = eq-eqb block x.block (sym (ap (λ (y : Slot T R). y.block) same ∙ b)) in
-      let d' = subst (λ o. IsDistinct nat_eq (blocks_of (filter_map row_in (record x { work = o } ∷ xs)))) work d in
-      let away = subst (λ z. AllByRecursion (λ y. nat_eq z y ≡ false) (blocks_of (rows_of xs))) (ap (λ (y : Slot T R). y.block) same ∙ b) d'.0 in
-      subst (λ o. rows_of xs ≡ without_block block (filter_map row_in (record x { work = o } ∷ xs))) (sym work) (rw its (sym (without-away block (rows_of xs) away)))
-  rows-emptied (suc i) (x ∷ xs) s w block h e b d = (elim x.work as (λ o. IsDistinct nat_eq (blocks_of (filter_map row_in (record x { work = o } ∷ xs))) → filter_map row_in (record x { work = o } ∷ set xs i (emptied s)) ≡ without_block block (filter_map row_in (record x { work = o } ∷ xs))) [
-    | None ↦ λ d. rows-emptied i xs s w block h e b d
-    | Some v ↦ λ d.
-        let other : nat_eq x.block s.block ≡ false = of-slot (λ y. nat_eq x.block y ≡ false) i xs s w h e d.0 in
-        let off : nat_eq block x.block ≡ false = eqb-apart block x.block (λ q. let yes : nat_eq x.block s.block ≡ true = eq-eqb x.block s.block (sym q ∙ sym b) in let clash : true ≡ false = sym yes ∙ other in cc) in
-        rw off (ap (λ rs. row x v ∷ rs) (rows-emptied i xs s w block h e b d.1))
-  ]) d
+  module _ (s : Slot T R) (w : T) (block : ℕ) (e : s.work ≡ Some w) (b : s.block ≡ block) where
+    rows-emptied : (i : ℕ) (ss : List (Slot T R)) → slice_get ss i ≡ Some s → IsDistinct nat_eq (blocks_of (rows_of ss))
+        → rows_of (set ss i (emptied s)) ≡ without_block block (rows_of ss)
+    unfolding IsDistinct
+    rows-emptied i [] h d = absurd (let clash : None ≡ Some s = h in cc)
+    rows-emptied zero (x ∷ xs) h d =
+        let same : x ≡ s = cc in
+        let work : x.work ≡ Some w = ap (λ (y : Slot T R). y.work) same ∙ e in
+        let its : nat_eq block x.block ≡ true = eq-eqb block x.block (sym (ap (λ (y : Slot T R). y.block) same ∙ b)) in
+        let d' = subst (λ o. IsDistinct nat_eq (blocks_of (filter_map row_in (record x { work = o } ∷ xs)))) work d in
+        let away = subst (λ z. AllByRecursion (λ y. nat_eq z y ≡ false) (blocks_of (rows_of xs)))
+        (ap (λ (y : Slot T R). y.block) same ∙ b) d'.0 in
+        subst (λ o. rows_of xs ≡ without_block block (filter_map row_in (record x { work = o } ∷ xs))) (sym work)
+        (rw its (sym (without-away block (rows_of xs) away)))
+    rows-emptied (suc i) (x ∷ xs) h d = (elim x.work as (λ o. IsDistinct nat_eq (blocks_of (filter_map row_in (record x { work = o } ∷ xs)))
+        → filter_map row_in (record x { work = o } ∷ set xs i (emptied s))
+        ≡ without_block block (filter_map row_in (record x { work = o } ∷ xs))) [
+          | None ↦ λ d. rows-emptied i xs h d
+          | Some v ↦ λ d.
+              let other : nat_eq x.block s.block ≡ false = of-slot (λ y. nat_eq x.block y ≡ false) i xs s w h e d.0 in
+              let off : nat_eq block x.block ≡ false = eqb-apart block x.block (λ q.
+              let yes : nat_eq x.block s.block ≡ true = eq-eqb x.block s.block (sym q ∙ sym b) in
+              let clash : true ≡ false = sym yes ∙ other in cc) in
+              rw off (ap (λ rs. row x v ∷ rs) (rows-emptied i xs h d.1))
+        ]) d
 
   all-without : (P : ℕ → Type 0) (block : ℕ) (rows : List (Row T R)) → AllByRecursion P (blocks_of rows) → AllByRecursion P (blocks_of (without_block block rows))
   all-without P block [] a = a
@@ -251,12 +265,26 @@ module _ {T R : Type 0} where
         ]) refl
   ]) refl h
 
+  -- the slot of a row more
+  abbrev pub new_slot : ℕ → ℕ → T → Slot T R
+  new_slot next block w = record { number = next; block = block; work = Some w; standing = Waiting }
+
+  -- that slot is put behind the others, its number is among the keys and the map has it for the block, with one place less to spare
+  pub record Added {S : Type 0} (next block : ℕ) (w : T) (ss ss' : List (Slot T R)) (capacity capacity' : ℕ) (ws ws' ls ls' : List ℕ)
+      (bs bs' : HashMap ℕ ℕ S) : Type 0 where
+    pub slots_are : ss' ≡ ss ++ new_slot next block w ∷ []
+    pub capacity_is : capacity' ≡ capacity
+    pub waiting_are : ws' ≡ set ws (length ss) next
+    pub left_are : ls' ≡ set ls (length ss) next
+    pub blocks_are : (q : ℕ) → get nat_eq bs' q ≡ cond (nat_eq block q) (Some next) (get nat_eq bs q)
+    pub spares : spare bs ≤ spare bs' + 1
+
   module _ {S : Type 0} {ss : List (Slot T R)} {capacity : ℕ} {ws ls : List ℕ} {bs : HashMap ℕ ℕ S} {next room : ℕ} (k : IsKept ss capacity ws ls bs next room) where
-    pub kept-stand : (i n : ℕ) (a : IsAt ss i n) (x : Standing R) (ws' ls' : List ℕ)
+    pub kept-stand : {ws' ls' : List ℕ} (i n : ℕ) (a : IsAt ss i n) (x : Standing R)
         → Marks is_waiting (set ss i (restood x a.slot)) ws' → length ws' ≡ length ws
         → Marks is_left (set ss i (restood x a.slot)) ls' → length ls' ≡ length ls
         → IsKept (set ss i (restood x a.slot)) capacity ws' ls' bs next room
-    kept-stand i n a x ws' ls' mw lw ml ll =
+    kept-stand i n a x mw lw ml ll =
         let rows : rows_of (set ss i (restood x a.slot)) ≡ stand a.slot.number x (rows_of ss) = stand-here 0 i x ss a.slot k.rising a.at in
         let long : length (set ss i (restood x a.slot)) ≡ length ss = length-set ss i (restood x a.slot) in
         record {
@@ -274,16 +302,17 @@ module _ {T R : Type 0} where
         }
 
     -- what a change of a row's standing leaves
-    pub stood : (i n : ℕ) (a : IsAt ss i n) (x : Standing R) (ss' : List (Slot T R)) (capacity' : ℕ) (ws' ls' : List ℕ)
+    pub stood : {ss' : List (Slot T R)} {capacity' : ℕ} {ws' ls' : List ℕ} (i n : ℕ) (a : IsAt ss i n) (x : Standing R)
         → Changes i (restood x) ss ss' ws ws' ls ls' → capacity' ≡ capacity → IsKept ss' capacity' ws' ls' bs next room × (rows_of ss' ≡ stand n x (rows_of ss))
-    stood i n a x ss' capacity' ws' ls' c e =
+    stood {ss'} {capacity'} {ws'} {ls'} i n a x c e =
         let same : c.slot ≡ a.slot = (let two : Some c.slot ≡ Some a.slot = sym c.at ∙ a.at in cc) in
         let here : ss' ≡ set ss i (restood x a.slot) = c.slots_are ∙ ap (λ s. set ss i (restood x s)) same in
         let waiting : ws' ≡ set ws i (key is_waiting (restood x a.slot)) = c.waiting_are ∙ ap (λ s. set ws i (key is_waiting (restood x s))) same in
         let left : ls' ≡ set ls i (key is_left (restood x a.slot)) = c.left_are ∙ ap (λ s. set ls i (key is_left (restood x s))) same in
         let within = within-at i ss a.slot a.at in
         rw (here, e, waiting, left) (
-          kept-stand i n a x _ _ (marks-set is_waiting i ss (restood x a.slot) ws k.waits within) (length-set ws i _) (marks-set is_left i ss (restood x a.slot) ls k.leaves within) (length-set ls i _),
+          kept-stand i n a x (marks-set is_waiting i ss (restood x a.slot) ws k.waits within) (length-set ws i _)
+              (marks-set is_left i ss (restood x a.slot) ls k.leaves within) (length-set ls i _),
           stand-here 0 i x ss a.slot k.rising a.at ∙ ap (λ m. stand m x (rows_of ss)) a.numbered,
         )
 
@@ -313,7 +342,7 @@ module _ {T R : Type 0} where
       | None ↦ λ g f. absurd (let clash : None ≡ Some n = f in cc)
       | Some r ↦ λ g f.
           let same : r.number ≡ n = cc in
-          let is : r ≡ row a.slot a.work = found-at (λ r. is_left r.standing) n i ss r k.rising g same a in
+          let is : r ≡ row a.slot a.work = found-at (λ r. is_left r.standing) n ss r k.rising g same i a in
           let held : o ≡ holder r.standing = h ∙ ap (λ (z : Row T R). holder z.standing) (sym is) in
           rw (same, held) refl
     ]) refl (sym (e ∙ left-least))
@@ -341,87 +370,91 @@ module _ {T R : Type 0} where
 
     pub its-result : (block n i : ℕ) (a : IsAt ss i n) → Some n ≡ get nat_eq bs block → result_of block (rows_of ss) ≡ outcome_of a.slot.standing
     its-result block n i a e = let f = block-found block n e in
-        rw f.1 (ap (λ (z : Row T R). outcome_of z.standing) (found-at (λ r. nat_eq block r.block) n i ss f.0 k.rising f.1 f.2 a))
+        rw f.1 (ap (λ (z : Row T R). outcome_of z.standing) (found-at (λ r. nat_eq block r.block) n ss f.0 k.rising f.1 f.2 i a))
 
-    -- what taking a row away leaves
-    pub emptied-kept : (i n block : ℕ) (a : IsAt ss i n) (ss' : List (Slot T R)) (capacity' : ℕ) (ws' ls' : List ℕ) (bs' : HashMap ℕ ℕ S)
-        → Changes i emptied ss ss' ws ws' ls ls' → capacity' ≡ capacity → get nat_eq bs block ≡ Some n
-        → ((q : ℕ) → get nat_eq bs' q ≡ cond (nat_eq block q) None (get nat_eq bs q)) → spare bs ≤ spare bs'
-        → IsKept ss' capacity' ws' ls' bs' next room × (rows_of ss' ≡ without_block block (rows_of ss))
-    emptied-kept i n block a ss' capacity' ws' ls' bs' c e g up sp =
-        let same : c.slot ≡ a.slot = (let two : Some c.slot ≡ Some a.slot = sym c.at ∙ a.at in cc) in
-        let here : ss' ≡ set ss i (emptied a.slot) = c.slots_are ∙ ap (λ s. set ss i (emptied s)) same in
-        let waiting : ws' ≡ set ws i (key is_waiting (emptied a.slot)) = c.waiting_are ∙ ap (λ s. set ws i (key is_waiting (emptied s))) same in
-        let left : ls' ≡ set ls i (key is_left (emptied a.slot)) = c.left_are ∙ ap (λ s. set ls i (key is_left (emptied s))) same in
-        let within = within-at i ss a.slot a.at in
-        let its : a.slot.block ≡ block = block-at i n block a g in
-        let rows : rows_of (set ss i (emptied a.slot)) ≡ without_block block (rows_of ss) = rows-emptied i ss a.slot a.work block a.at a.works its k.apart in
-        let long : length (set ss i (emptied a.slot)) ≡ length ss = length-set ss i (emptied a.slot) in
-        rw (here, e, waiting, left) (
-          record {
-            rising = rising-set 0 i ss a.slot (emptied a.slot) a.at refl k.rising;
-            below = below-set next i ss a.slot (emptied a.slot) a.at refl k.below;
-            few = k.few;
-            apart = rw rows (apart-without block (rows_of ss) k.apart);
-            waits = marks-set is_waiting i ss (emptied a.slot) ws k.waits within;
-            leaves = marks-set is_left i ss (emptied a.slot) ls k.leaves within;
-            finds = λ q. up q ∙ ap (λ o. cond (nat_eq block q) None o) (k.finds q) ∙ sym (ap (number_of q) rows ∙ number-without block q (rows_of ss));
-            slots_room = rw long k.slots_room;
-            waiting_room = rw (long, length-set ws i (key is_waiting (emptied a.slot))) k.waiting_room;
-            left_room = rw (long, length-set ls i (key is_left (emptied a.slot))) k.left_room;
-            blocks_room = omega (arith, k.blocks_room, sp);
-          },
-          rows,
-        )
-      where
-        block-at : (i n block : ℕ) (a : IsAt ss i n) → get nat_eq bs block ≡ Some n → a.slot.block ≡ block
-        block-at i n block a g = (elim (find (λ r. nat_eq block r.block) (rows_of ss)) as (λ o. find (λ r. nat_eq block r.block) (rows_of ss) ≡ o → option_map (λ (r : Row T R). r.number) o ≡ Some n → a.slot.block ≡ block) [
-          | None ↦ λ h f. absurd (let clash : None ≡ Some n = f in cc)
-          | Some r ↦ λ h f. let same : r.number ≡ n = cc in
-              let is : r ≡ row a.slot a.work = found-at (λ r. nat_eq block r.block) n i ss r k.rising h same a in
-              sym (eqb-true block a.slot.block (subst (λ (z : Row T R). nat_eq block z.block ≡ true) is (passes (λ r. nat_eq block r.block) (rows_of ss) r h)))
-        ]) refl (sym (k.finds block) ∙ g)
+    module _ (i n : ℕ) (a : IsAt ss i n) where
+      -- what taking a row away leaves
+      pub emptied-kept : {ss' : List (Slot T R)} {capacity' : ℕ} {ws' ls' : List ℕ} (block : ℕ) (bs' : HashMap ℕ ℕ S)
+          → Changes i emptied ss ss' ws ws' ls ls' → capacity' ≡ capacity → get nat_eq bs block ≡ Some n
+          → ((q : ℕ) → get nat_eq bs' q ≡ cond (nat_eq block q) None (get nat_eq bs q)) → spare bs ≤ spare bs'
+          → IsKept ss' capacity' ws' ls' bs' next room × (rows_of ss' ≡ without_block block (rows_of ss))
+      emptied-kept {ss'} {capacity'} {ws'} {ls'} block bs' c e g up sp =
+          let same : c.slot ≡ a.slot = (let two : Some c.slot ≡ Some a.slot = sym c.at ∙ a.at in cc) in
+          let here : ss' ≡ set ss i (emptied a.slot) = c.slots_are ∙ ap (λ s. set ss i (emptied s)) same in
+          let waiting : ws' ≡ set ws i (key is_waiting (emptied a.slot)) = c.waiting_are
+          ∙ ap (λ s. set ws i (key is_waiting (emptied s))) same in
+          let left : ls' ≡ set ls i (key is_left (emptied a.slot)) = c.left_are ∙ ap (λ s. set ls i (key is_left (emptied s))) same in
+          let within = within-at i ss a.slot a.at in
+          let its : a.slot.block ≡ block = block-at block g in
+          let rows : rows_of (set ss i (emptied a.slot)) ≡ without_block block (rows_of ss) =
+          rows-emptied a.slot a.work block a.works its i ss a.at k.apart in
+          let long : length (set ss i (emptied a.slot)) ≡ length ss = length-set ss i (emptied a.slot) in
+          rw (here, e, waiting, left) (
+            record {
+              rising = rising-set 0 i ss a.slot (emptied a.slot) a.at refl k.rising;
+              below = below-set next i ss a.slot (emptied a.slot) a.at refl k.below;
+              few = k.few;
+              apart = rw rows (apart-without block (rows_of ss) k.apart);
+              waits = marks-set is_waiting i ss (emptied a.slot) ws k.waits within;
+              leaves = marks-set is_left i ss (emptied a.slot) ls k.leaves within;
+              finds = λ q. up q ∙ ap (λ o. cond (nat_eq block q) None o) (k.finds q)
+                  ∙ sym (ap (number_of q) rows ∙ number-without block q (rows_of ss));
+              slots_room = rw long k.slots_room;
+              waiting_room = rw (long, length-set ws i (key is_waiting (emptied a.slot))) k.waiting_room;
+              left_room = rw (long, length-set ls i (key is_left (emptied a.slot))) k.left_room;
+              blocks_room = omega (arith, k.blocks_room, sp);
+            },
+            rows,
+          )
+        where
+          block-at : (block : ℕ) → get nat_eq bs block ≡ Some n → a.slot.block ≡ block
+          block-at block g = (elim (find (λ r. nat_eq block r.block) (rows_of ss)) as (λ o.
+              find (λ r. nat_eq block r.block) (rows_of ss) ≡ o
+              → option_map (λ (r : Row T R). r.number) o ≡ Some n → a.slot.block ≡ block) [
+                | None ↦ λ h f. absurd (let clash : None ≡ Some n = f in cc)
+                | Some r ↦ λ h f. let same : r.number ≡ n = cc in
+                    let is : r ≡ row a.slot a.work = found-at (λ r. nat_eq block r.block) n ss r k.rising h same i a in
+                    sym (eqb-true block a.slot.block (subst (λ (z : Row T R). nat_eq block z.block ≡ true) is
+                    (passes (λ r. nat_eq block r.block) (rows_of ss) r h)))
+              ]) refl (sym (k.finds block) ∙ g)
 
     pub without-none : (block : ℕ) → None ≡ get nat_eq bs block → rows_of ss ≡ without_block block (rows_of ss)
     without-none block e = sym (none-without block (rows_of ss) (no-block block e))
 
     -- what a row more leaves
-    pub added-kept : (s : Slot T R) (w : T) (ss' : List (Slot T R)) (capacity' : ℕ) (ws' ls' : List ℕ) (bs' : HashMap ℕ ℕ S)
-        → s.number ≡ next → s.work ≡ Some w → s.standing ≡ Waiting → next < 2 ^ 63 → 0 < room → has_row s.block (rows_of ss) ≡ false
-        → ss' ≡ ss ++ s ∷ [] → capacity' ≡ capacity → ws' ≡ set ws (length ss) next → ls' ≡ set ls (length ss) next
-        → ((q : ℕ) → get nat_eq bs' q ≡ cond (nat_eq s.block q) (Some next) (get nat_eq bs q)) → spare bs ≤ spare bs' + 1
-        → IsKept ss' capacity' ws' ls' bs' (next + 1) (room - 1) × (rows_of ss' ≡ rows_of ss ++ record { number = next; block = s.block; work = w; standing = Waiting } ∷ [])
-    added-kept s w ss' capacity' ws' ls' bs' n e x lt some fresh here cap waiting left up sp =
-        let rows : rows_of (ss ++ s ∷ []) ≡ rows_of ss ++ row s w ∷ [] = rows-push ss s w e in
+    pub added-kept : {ss' : List (Slot T R)} {capacity' : ℕ} {ws' ls' : List ℕ} (bs' : HashMap ℕ ℕ S) (block : ℕ) (w : T)
+        → next < 2 ^ 63 → 0 < room → has_row block (rows_of ss) ≡ false
+        → Added next block w ss ss' capacity capacity' ws ws' ls ls' bs bs'
+        → IsKept ss' capacity' ws' ls' bs' (next + 1) (room - 1)
+        × (rows_of ss' ≡ rows_of ss ++ record { number = next; block = block; work = w; standing = Waiting } ∷ [])
+    added-kept bs' block w lt some fresh c =
+        let s : Slot T R = new_slot next block w in
+        let rows : rows_of (ss ++ s ∷ []) ≡ rows_of ss ++ row s w ∷ [] = rows-push ss s w refl in
         let long : length (ss ++ s ∷ []) ≡ length ss + 1 = length-append ss (s ∷ []) in
-        let wkey : key is_waiting s ≡ next = rw (e, x) n in
-        let lkey : key is_left s ≡ next = rw (e, x) n in
-        let mw = marks-push is_waiting ss s ws k.waits (omega (arith, k.waiting_room)) in
-        let ml = marks-push is_left ss s ls k.leaves (omega (arith, k.left_room)) in
-        let numbers : row s w ≡ record { number = next; block = s.block; work = w; standing = Waiting } = rw (n, x) refl in
-        rw (here, cap, waiting, left) (
+        rw (c.slots_are, c.capacity_is, c.waiting_are, c.left_are) (
           record {
-            rising = rising-push 0 ss s (omega arith) (subst (λ h. Below h ss) (sym n) k.below) k.rising;
-            below = below-push (next + 1) ss s (omega (arith, n)) (below-more next (next + 1) ss (omega arith) k.below);
+            rising = rising-push 0 ss s (omega arith) k.below k.rising;
+            below = below-push (next + 1) ss s (omega arith) (below-more next (next + 1) ss (omega arith) k.below);
             few = omega (arith, lt);
-            apart = rw (rows, blocks-push (rows_of ss) (row s w)) (apart-push (rows_of ss) s.block k.apart fresh);
-            waits = subst (λ v. Marks is_waiting (ss ++ s ∷ []) (set ws (length ss) v)) wkey mw;
-            leaves = subst (λ v. Marks is_left (ss ++ s ∷ []) (set ls (length ss) v)) lkey ml;
-            finds = λ q. up q ∙ ap (λ o. cond (nat_eq s.block q) (Some next) o) (k.finds q) ∙ ap (λ m. cond (nat_eq s.block q) (Some m) (number_of q (rows_of ss))) (sym n) ∙ sym (ap (number_of q) rows ∙ number-push q (rows_of ss) (row s w) fresh);
+            apart = rw (rows, blocks-push (rows_of ss) (row s w)) (apart-push (rows_of ss) block k.apart fresh);
+            waits = marks-push is_waiting ss s ws k.waits (omega (arith, k.waiting_room, some));
+            leaves = marks-push is_left ss s ls k.leaves (omega (arith, k.left_room, some));
+            finds = λ q. c.blocks_are q ∙ ap (λ o. cond (nat_eq block q) (Some next) o) (k.finds q)
+                ∙ sym (ap (number_of q) rows ∙ number-push q (rows_of ss) (row s w) fresh);
             slots_room = rw long (omega (arith, k.slots_room, some));
             waiting_room = rw (long, length-set ws (length ss) next) (omega (arith, k.waiting_room, some));
             left_room = rw (long, length-set ls (length ss) next) (omega (arith, k.left_room, some));
-            blocks_room = omega (arith, k.blocks_room, sp, some);
+            blocks_room = omega (arith, k.blocks_room, c.spares, some);
           },
-          rows ∙ ap (λ r. rows_of ss ++ r ∷ []) numbers,
+          rows,
         )
 
     -- what is left when all rows go
-    pub closed-kept : (ss' : List (Slot T R)) (capacity' : ℕ) (ws' ls' : List ℕ) (bs' : HashMap ℕ ℕ S)
+    pub closed-kept : {ss' : List (Slot T R)} {capacity' : ℕ} {ws' ls' : List ℕ} (bs' : HashMap ℕ ℕ S)
         → ss' ≡ [] → capacity' ≡ capacity → ws' ≡ replicate (length ws) nothing → ls' ≡ replicate (length ls) nothing → bs'.entries ≡ [] → spare bs ≤ spare bs'
         → IsKept ss' capacity' ws' ls' bs' next room × (rows_of ss' ≡ [])
     unfolding IsDistinct
-    closed-kept ss' capacity' ws' ls' bs' here cap waiting left none sp =
+    closed-kept bs' here cap waiting left none sp =
         rw (here, cap, waiting, left) (
           record {
             rising = tt;
@@ -440,11 +473,10 @@ module _ {T R : Type 0} where
         )
 
     -- what is left when the slots are made anew without those that are empty
-    pub renewed-kept : (ss' : List (Slot T R)) (capacity' : ℕ) (ws' ls' : List ℕ) (bs' : HashMap ℕ ℕ S) (room' : ℕ)
+    pub renewed-kept : {ss' : List (Slot T R)} {capacity' : ℕ} {ws' ls' : List ℕ} (bs' : HashMap ℕ ℕ S) (room' : ℕ)
         → ss' ≡ full ss → Marks is_waiting (full ss) ws' → Marks is_left (full ss) ls' → ((q : ℕ) → get nat_eq bs' q ≡ get nat_eq bs q)
-        → length (full ss) + room' ≤ capacity' → length (full ss) + room' ≤ length ws' → length (full ss) + room' ≤ length ls' → room' ≤ spare bs'
-        → IsKept ss' capacity' ws' ls' bs' next room' × (rows_of ss' ≡ rows_of ss)
-    renewed-kept ss' capacity' ws' ls' bs' room' here mw ml same cap waiting left sp =
+        → HasRoom (length (full ss)) room' capacity' ws' ls' bs' → IsKept ss' capacity' ws' ls' bs' next room' × (rows_of ss' ≡ rows_of ss)
+    renewed-kept bs' room' here mw ml same r =
         rw here (
           record {
             rising = rising-full 0 ss k.rising;
@@ -454,10 +486,10 @@ module _ {T R : Type 0} where
             waits = mw;
             leaves = ml;
             finds = λ q. same q ∙ k.finds q ∙ ap (number_of q) (sym (rows-full ss));
-            slots_room = cap;
-            waiting_room = waiting;
-            left_room = left;
-            blocks_room = sp;
+            slots_room = r.slots_room;
+            waiting_room = r.waiting_room;
+            left_room = r.left_room;
+            blocks_room = r.blocks_room;
           },
           rows-full ss,
         )

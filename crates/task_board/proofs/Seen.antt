@@ -97,28 +97,30 @@ module _ {T R : Type 0} where
 
   -- ---- rows of a number, and whether one is held
 
-  pub held-none : (seat n : ℕ) (rows : List (Row T R)) → find (λ (r : Row T R). nat_eq n r.number) rows ≡ None → is_held seat n rows ≡ false
-  held-none seat n [] h = refl
-  held-none seat n (x ∷ xs) h = (elim (nat_eq n x.number) as (λ y. nat_eq n x.number ≡ y → is_held seat n (x ∷ xs) ≡ false) [
-    | true ↦ λ t. absurd (let no : Some x ≡ None = rw t at h in cc)
-    | false ↦ λ t. rw t (held-none seat n xs (rw t at h))
-  ]) refl
+  module _ (seat : ℕ) where
+    pub held-none : (n : ℕ) (rows : List (Row T R)) → find (λ (r : Row T R). nat_eq n r.number) rows ≡ None → is_held seat n rows ≡ false
+    held-none n [] h = refl
+    held-none n (x ∷ xs) h = (elim (nat_eq n x.number) as (λ y. nat_eq n x.number ≡ y → is_held seat n (x ∷ xs) ≡ false) [
+      | true ↦ λ t. absurd (let no : Some x ≡ None = rw t at h in cc)
+      | false ↦ λ t. rw t (held-none n xs (rw t at h))
+    ]) refl
 
-  held-beyond : (seat n lo : ℕ) (ss : List (Slot T R)) → n < lo → Rising lo ss → is_held seat n (rows_of ss) ≡ false
-  held-beyond seat n lo ss lt r = held-none seat n (rows_of ss) (find-beyond n lo ss lt r)
+    held-beyond : (n lo : ℕ) (ss : List (Slot T R)) → n < lo → Rising lo ss → is_held seat n (rows_of ss) ≡ false
+    held-beyond n lo ss lt r = held-none n (rows_of ss) (find-beyond n lo ss lt r)
 
-  pub held-at : (seat lo i : ℕ) (ss : List (Slot T R)) (s : Slot T R) (w : T) → Rising lo ss → slice_get ss i ≡ Some s → s.work ≡ Some w
-      → is_held seat s.number (rows_of ss) ≡ is_held_by seat s.standing
-  held-at seat lo i [] s w r h k = absurd (let no : None ≡ Some s = h in cc)
-  held-at seat lo zero (x ∷ xs) s w r h k = let e : x ≡ s = cc in let on = held-beyond seat x.number (suc x.number) xs (omega arith) r.1 in
-      rw (← e, rw (← e) at k, eqb-same x.number, on) (elim (is_held_by seat x.standing) as (λ y. (y || false) ≡ y) [ true ↦ refl | false ↦ refl ])
-  held-at seat lo (suc i) (x ∷ xs) s w r h k = let on = held-at seat (suc x.number) i xs s w r.1 h k in
-      let above = rising-at (suc x.number) i xs s r.1 h in
-      let no : nat_eq s.number x.number ≡ false = eqb-apart s.number x.number (λ e. omega (arith, e, above)) in
-      (elim x.work as (λ v. is_held seat s.number (filter_map row_in (record x { work = v } ∷ xs)) ≡ is_held_by seat s.standing) [
-        | None ↦ on
-        | Some v ↦ rw no on
-      ])
+    pub held-at : (lo i : ℕ) (ss : List (Slot T R)) (s : Slot T R) (w : T) → Rising lo ss → slice_get ss i ≡ Some s → s.work ≡ Some w
+        → is_held seat s.number (rows_of ss) ≡ is_held_by seat s.standing
+    held-at lo i [] s w r h k = absurd (let no : None ≡ Some s = h in cc)
+    held-at lo zero (x ∷ xs) s w r h k = let e : x ≡ s = cc in let on = held-beyond x.number (suc x.number) xs (omega arith) r.1 in
+        rw (← e, rw (← e) at k, eqb-same x.number, on)
+        (elim (is_held_by seat x.standing) as (λ y. (y || false) ≡ y) [ true ↦ refl | false ↦ refl ])
+    held-at lo (suc i) (x ∷ xs) s w r h k = let on = held-at (suc x.number) i xs s w r.1 h k in
+        let above = rising-at (suc x.number) i xs s r.1 h in
+        let no : nat_eq s.number x.number ≡ false = eqb-apart s.number x.number (λ e. omega (arith, e, above)) in
+        (elim x.work as (λ v. is_held seat s.number (filter_map row_in (record x { work = v } ∷ xs)) ≡ is_held_by seat s.standing) [
+          | None ↦ on
+          | Some v ↦ rw no on
+        ])
 
   -- ---- a number that no row has
 
@@ -148,12 +150,15 @@ module _ {T R : Type 0} where
 
   -- ---- places
 
-  pub partitioned : (n lo : ℕ) (ss : List (Slot T R)) → Rising lo ss → (i j : ℕ) (d : Slot T R) → i ≤ j → j < length ss → (get_or ss j d).number < n → (get_or ss i d).number < n
-  partitioned n lo [] r i j d le lt h = absurd (omega arith)
-  partitioned n lo (s ∷ ss) r zero zero d le lt h = h
-  partitioned n lo (s ∷ ss) r zero (suc j) d le lt h = let above = rising-get (suc s.number) j ss d r.1 (omega arith) in omega (arith, above, h)
-  partitioned n lo (s ∷ ss) r (suc i) zero d le lt h = absurd (omega arith)
-  partitioned n lo (s ∷ ss) r (suc i) (suc j) d le lt h = partitioned n (suc s.number) ss r.1 i j d (omega arith) (omega arith) h
+  module _ (n : ℕ) (d : Slot T R) where
+    pub partitioned : (lo : ℕ) (ss : List (Slot T R)) → Rising lo ss → (i j : ℕ) → i ≤ j → j < length ss → (get_or ss j d).number < n
+        → (get_or ss i d).number < n
+    partitioned lo [] r i j le lt h = absurd (omega arith)
+    partitioned lo (s ∷ ss) r zero zero le lt h = h
+    partitioned lo (s ∷ ss) r zero (suc j) le lt h =
+        let above = rising-get (suc s.number) j ss d r.1 (omega arith) in omega (arith, above, h)
+    partitioned lo (s ∷ ss) r (suc i) zero le lt h = absurd (omega arith)
+    partitioned lo (s ∷ ss) r (suc i) (suc j) le lt h = partitioned (suc s.number) ss r.1 i j (omega arith) (omega arith) h
 
   -- an element at an index, in both spellings
   pub got : (i : ℕ) (ss : List (Slot T R)) (s : Slot T R) → i < length ss → s ≡ get_or ss i s → slice_get ss i ≡ Some s
@@ -235,16 +240,19 @@ module _ {T R : Type 0} where
     ]
   ]) h
 
-  -- the row that passes a test stands where its number does
-  pub found-at : (q : Row T R → Bool) (n i : ℕ) (ss : List (Slot T R)) (r : Row T R) → Rising 0 ss → find q (rows_of ss) ≡ Some r → r.number ≡ n → (a : IsAt ss i n) → r ≡ row a.slot a.work
-  found-at q n i ss r g h e a =
-      let one = found-numbered 0 q ss r g h in
-      let two = find-at 0 i ss a.slot a.work g a.at a.works in
-      let same : r.number ≡ a.slot.number = e ∙ sym a.numbered in
-      let three : find (λ (z : Row T R). nat_eq a.slot.number z.number) (rows_of ss) ≡ Some r = subst (λ k. find (λ (z : Row T R). nat_eq k z.number) (rows_of ss) ≡ Some r) same one in
-      let four : Some r ≡ Some (row a.slot a.work) = sym three ∙ two in cc
+  module _ (q : Row T R → Bool) (n : ℕ) (ss : List (Slot T R)) (r : Row T R) (g : Rising 0 ss) (h : find q (rows_of ss) ≡ Some r)
+      (e : r.number ≡ n) where
+    -- the row that passes a test stands where its number does
+    pub found-at : (i : ℕ) (a : IsAt ss i n) → r ≡ row a.slot a.work
+    found-at i a =
+        let one = found-numbered 0 q ss r g h in
+        let two = find-at 0 i ss a.slot a.work g a.at a.works in
+        let same : r.number ≡ a.slot.number = e ∙ sym a.numbered in
+        let three : find (λ (z : Row T R). nat_eq a.slot.number z.number) (rows_of ss) ≡ Some r =
+        subst (λ k. find (λ (z : Row T R). nat_eq k z.number) (rows_of ss) ≡ Some r) same one in
+        let four : Some r ≡ Some (row a.slot a.work) = sym three ∙ two in cc
 
-  pub not-lost : (q : Row T R → Bool) (n : ℕ) (ss : List (Slot T R)) (r : Row T R) → Rising 0 ss → find q (rows_of ss) ≡ Some r → r.number ≡ n → find (λ (z : Row T R). nat_eq n z.number) (rows_of ss) ≡ None → ⊥
-  not-lost q n ss r g h e lost =
-      let one = found-numbered 0 q ss r g h in
-      let clash : Some r ≡ None = sym (subst (λ k. find (λ (z : Row T R). nat_eq k z.number) (rows_of ss) ≡ Some r) e one) ∙ lost in cc
+    pub not-lost : find (λ (z : Row T R). nat_eq n z.number) (rows_of ss) ≡ None → ⊥
+    not-lost lost =
+        let one = found-numbered 0 q ss r g h in
+        let clash : Some r ≡ None = sym (subst (λ k. find (λ (z : Row T R). nat_eq k z.number) (rows_of ss) ≡ Some r) e one) ∙ lost in cc

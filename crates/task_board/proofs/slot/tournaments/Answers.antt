@@ -40,8 +40,12 @@ loop-slot-preserved g c =
           let more = full-more i ss s c.loop-slot-test.true c.slot-item.is yes in
           record {
             placed = rw (w.place-is, c.loop-slot.invariant.placed, more) (sym (length-append (full (take i ss)) (s ∷ [])));
-            waits = step-full is_waiting ss i c.loop-slot.place s c.loop-slot.waiting c.if-is_some.waiting c.loop-slot.invariant.waits c.loop-slot.invariant.placed (omega (arith, c.loop-slot.invariant.waiting_places, c.requires.enough)) c.loop-slot-test.true c.slot-item.is yes waiting;
-            leaves = step-full is_left ss i c.loop-slot.place s c.loop-slot.left c.if-is_some.left c.loop-slot.invariant.leaves c.loop-slot.invariant.placed (omega (arith, c.loop-slot.invariant.left_places, c.requires.enough)) c.loop-slot-test.true c.slot-item.is yes left;
+            waits = step-full is_waiting ss i s c.loop-slot-test.true c.slot-item.is yes c.loop-slot.place
+                c.loop-slot.waiting c.if-is_some.waiting c.loop-slot.invariant.waits c.loop-slot.invariant.placed
+                (omega (arith, c.loop-slot.invariant.waiting_places, c.requires.enough)) waiting;
+            leaves = step-full is_left ss i s c.loop-slot-test.true c.slot-item.is yes c.loop-slot.place
+                c.loop-slot.left c.if-is_some.left c.loop-slot.invariant.leaves c.loop-slot.invariant.placed
+                (omega (arith, c.loop-slot.invariant.left_places, c.requires.enough)) left;
             waiting_places = ap length waiting ∙ length-set c.loop-slot.waiting c.loop-slot.place _ ∙ c.loop-slot.invariant.waiting_places;
             left_places = ap length left ∙ length-set c.loop-slot.left c.loop-slot.place _ ∙ c.loop-slot.invariant.left_places;
           }

@@ -13,8 +13,14 @@ invariant_of-self g c =
     let waits = c.set.ensures ∙ ap (λ i. set c.self.inside.waiting i c.self.inside.next) place in
     let leaves = c.set-2.ensures ∙ ap (λ i. set c.self.inside.left i c.self.inside.next) place in
     let put = on-ok _ _ _ c.unwrap.ensures c.insert-inserted.ensures.updates in
-    (added-kept c.self.invariant (record { number = c.self.inside.next; block = c.args.block; work = Some c.args.work; standing = Waiting }) c.args.work _ _ _ _ c.insert-inserted.new.self
-    refl refl refl few room fresh c.push_reserved.ensures.items c.push_reserved.ensures.capacity waits leaves put.0 c.insert-inserted.ensures.spare).0
+    (added-kept c.self.invariant c.insert-inserted.new.self c.args.block c.args.work few room fresh (record {
+      slots_are = c.push_reserved.ensures.items;
+      capacity_is = c.push_reserved.ensures.capacity;
+      waiting_are = waits;
+      left_are = leaves;
+      blocks_are = put.0;
+      spares = c.insert-inserted.ensures.spare;
+    })).0
 
 pub returns-clause-added : goal.returns-clause-added
 returns-clause-added g c =
@@ -25,5 +31,12 @@ returns-clause-added g c =
     let waits = c.set.ensures ∙ ap (λ i. set c.self.inside.waiting i c.self.inside.next) place in
     let leaves = c.set-2.ensures ∙ ap (λ i. set c.self.inside.left i c.self.inside.next) place in
     let put = on-ok _ _ _ c.unwrap.ensures c.insert-inserted.ensures.updates in
-    rw (← c.self.view_is) (table-posted c.args.block c.args.work _ _ (added-kept c.self.invariant (record { number = c.self.inside.next; block = c.args.block; work = Some c.args.work; standing = Waiting }) c.args.work _ _ _ _ c.insert-inserted.new.self
-    refl refl refl few room fresh c.push_reserved.ensures.items c.push_reserved.ensures.capacity waits leaves put.0 c.insert-inserted.ensures.spare).1)
+    rw (← c.self.view_is) (table-posted c.args.block c.args.work _ _
+    (added-kept c.self.invariant c.insert-inserted.new.self c.args.block c.args.work few room fresh (record {
+      slots_are = c.push_reserved.ensures.items;
+      capacity_is = c.push_reserved.ensures.capacity;
+      waiting_are = waits;
+      left_are = leaves;
+      blocks_are = put.0;
+      spares = c.insert-inserted.ensures.spare;
+    })).1)

@@ -25,7 +25,8 @@ returns-in_default-place_of-clause-held g c =
 pub invariant_of-self : goal.invariant_of-self
 invariant_of-self g c =
     let a = subst (λ ss. IsAt ss c.in-Some-place_of.place c.in-Some.number) c.deref.ensures.value c.in-Some-place_of.ensures.found in
-    (stood c.self.invariant c.in-Some-place_of.place c.in-Some.number a (Held c.args.seat) _ _ _ _ c.stand_at.ensures.changes c.stand_at.ensures.capacity).0
+    (stood c.self.invariant c.in-Some-place_of.place c.in-Some.number a (Held c.args.seat)
+    c.stand_at.ensures.changes c.stand_at.ensures.capacity).0
 
 pub returns-clause-least : goal.returns-clause-least
 returns-clause-least g c = rw (← c.self.view_is) (c.in-Some.ensures ∙ waiting-least c.self.invariant)
@@ -34,4 +35,5 @@ pub returns-clause-held : goal.returns-clause-held
 returns-clause-held g c =
     let a = subst (λ ss. IsAt ss c.in-Some-place_of.place c.in-Some.number) c.deref.ensures.value c.in-Some-place_of.ensures.found in
     rw (← c.self.view_is) (table-claimed c.args.seat c.in-Some.number _ _ (sym (c.in-Some.ensures ∙ waiting-least c.self.invariant))
-    (stood c.self.invariant c.in-Some-place_of.place c.in-Some.number a (Held c.args.seat) _ _ _ _ c.stand_at.ensures.changes c.stand_at.ensures.capacity).1)
+    (stood c.self.invariant c.in-Some-place_of.place c.in-Some.number a (Held c.args.seat)
+    c.stand_at.ensures.changes c.stand_at.ensures.capacity).1)

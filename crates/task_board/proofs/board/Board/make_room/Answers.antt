@@ -17,11 +17,13 @@ invariant_of-self-2 g c =
     let more : c.max-more.result ≡ max c.args.rows c.row_count-kept.result = c.max-more.ensures in
     let capacity = c.close_up.ensures.capacity in
     let room = c.in_ok-reserve-2.ensures.ok in
-    (renewed-kept c.self.invariant _ _ _ _ c.reserve.new.self c.args.rows (c.close_up.ensures.items ∙ ap full same) waits leaves c.reserve.ensures.entries.2
-    (omega (arith, kept, more, capacity, room, c.len.ensures, c.saturating_sub.ensures, c.in_ok-reserve-2.ensures.len))
-    (omega (arith, kept, more, c.in_ok-waiting.ensures.waiting_places))
-    (omega (arith, kept, more, c.in_ok-waiting.ensures.left_places))
-    (omega (arith, more, c.in_ok-reserve.ensures.ok))).0
+    (renewed-kept c.self.invariant c.reserve.new.self c.args.rows (c.close_up.ensures.items ∙ ap full same) waits leaves
+    c.reserve.ensures.entries.2 (record {
+      slots_room = omega (arith, kept, more, capacity, room, c.len.ensures, c.saturating_sub.ensures, c.in_ok-reserve-2.ensures.len);
+      waiting_room = omega (arith, kept, more, c.in_ok-waiting.ensures.waiting_places);
+      left_room = omega (arith, kept, more, c.in_ok-waiting.ensures.left_places);
+      blocks_room = omega (arith, more, c.in_ok-reserve.ensures.ok);
+    })).0
 
 pub returns-clause-ok : goal.returns-clause-ok
 returns-clause-ok g c =

@@ -16,9 +16,14 @@ returns-in_default-place_of g c =
 pub invariant_of-self : goal.invariant_of-self
 invariant_of-self g c =
     let a = subst (λ ss. IsAt ss c.in-Some-place_of.place c.in-Some.number.now) c.deref.ensures.value c.in-Some-place_of.ensures.found in
-    (emptied-kept c.self.invariant c.in-Some-place_of.place c.in-Some.number.now c.args.block a _ _ _ _ c.remove.new.self c.vacate_at.ensures.changes c.vacate_at.ensures.capacity (sym c.in-Some.ensures.value) c.remove.ensures.updates.0 c.remove.ensures.spare).0
+    (emptied-kept c.self.invariant c.in-Some-place_of.place c.in-Some.number.now a c.args.block c.remove.new.self
+    c.vacate_at.ensures.changes c.vacate_at.ensures.capacity (sym c.in-Some.ensures.value)
+    c.remove.ensures.updates.0 c.remove.ensures.spare).0
 
 pub returns : goal.returns
 returns g c =
     let a = subst (λ ss. IsAt ss c.in-Some-place_of.place c.in-Some.number.now) c.deref.ensures.value c.in-Some-place_of.ensures.found in
-    rw (← c.self.view_is) (ap (λ rows. table rows c.self.inside.next c.self.inside.spare) (emptied-kept c.self.invariant c.in-Some-place_of.place c.in-Some.number.now c.args.block a _ _ _ _ c.remove.new.self c.vacate_at.ensures.changes c.vacate_at.ensures.capacity (sym c.in-Some.ensures.value) c.remove.ensures.updates.0 c.remove.ensures.spare).1)
+    rw (← c.self.view_is) (ap (λ rows. table rows c.self.inside.next c.self.inside.spare)
+    (emptied-kept c.self.invariant c.in-Some-place_of.place c.in-Some.number.now a c.args.block c.remove.new.self
+    c.vacate_at.ensures.changes c.vacate_at.ensures.capacity (sym c.in-Some.ensures.value)
+    c.remove.ensures.updates.0 c.remove.ensures.spare).1)
