@@ -22,13 +22,6 @@ last_lexeme : (w : List ℕ) (ts : List Token) (i : ℕ) (d : Token) → i < len
     → lexemes w (take (i + 1) ts) ≡ lexemes w (take i ts) ++ (lexeme w (slice_index_or ts i d) ∷ [])
 last_lexeme w ts i d h = rw (add-one, take-suc ts i d h) (map-append (lexeme w) (take i ts) (slice_index_or ts i d ∷ []))
 
-pub loop_next : (w : List ℕ) (ts : List Token) (i : ℕ) (d : Token) (s : List Frame) (st : State) → i < length ts
-    → run (start s) (lexemes w (take i ts)) ≡ Some st →
-    run (start s) (lexemes w (take (i + 1) ts)) ≡ step st (lexeme w (slice_index_or ts i d))
-loop_next w ts i d s st h e =
-    ap (run (start s)) (last_lexeme w ts i d h) ∙ run-append (start s) (lexemes w (take i ts)) (lexeme w (slice_index_or ts i d) ∷ [])
-    ∙ ap (λ m. next m (lexeme w (slice_index_or ts i d))) e
-
 offset_at : (w : List ℕ) (ts : List Token) (i : ℕ) (d : Token) → i < length ts → offset w ts i ≡ (slice_index_or ts i d).span.from
 offset_at w [] i d h = omega arith
 offset_at w (t ∷ ts) zero d h = refl
@@ -38,22 +31,26 @@ offset_end : (w : List ℕ) (ts : List Token) → offset w ts (length ts) ≡ le
 offset_end w [] = refl
 offset_end w (t ∷ ts) = offset_end w ts
 
-fails_at : (w : List ℕ) (ts : List Token) (i : ℕ) (d : Token) (s : List Frame) (st : State) → i < length ts
-    → run (start s) (lexemes w (take i ts)) ≡ Some st →
-    step st (lexeme w (slice_index_or ts i d)) ≡ None → Fails s (lexemes w ts) i
-fails_at w ts i d s st h e n = record {
-  within = omega (arith, length-map ts (lexeme w));
-  state = st;
-  begun = ap (run (start s)) (take-map (lexeme w) i ts) ∙ e;
-  refused = λ l. ap (run (start s)) (take-map (lexeme w) (i + 1) ts) ∙ loop_next w ts i d s st h e ∙ n;
-  unfinished = λ q. absurd (omega (arith, q, length-map ts (lexeme w)));
-}
+module _ (w : List ℕ) (ts : List Token) (i : ℕ) (d : Token) (s : List Frame) (st : State) (h : i < length ts)
+    (e : run (start s) (lexemes w (take i ts)) ≡ Some st) where
+  pub loop_next : run (start s) (lexemes w (take (i + 1) ts)) ≡ step st (lexeme w (slice_index_or ts i d))
+  loop_next =
+      ap (run (start s)) (last_lexeme w ts i d h) ∙ run-append (start s) (lexemes w (take i ts)) (lexeme w (slice_index_or ts i d) ∷ [])
+      ∙ ap (λ m. next m (lexeme w (slice_index_or ts i d))) e
 
-pub stops : (e : ParseFault) (w : List ℕ) (ts : List Token) (i : ℕ) (d : Token) (s : List Frame) (st : State) (fs : List Kept)
-    → i < length ts → run (start s) (lexemes w (take i ts)) ≡ Some st →
-    Takes (Err e) fs (slice_index_or ts i d) (step st (lexeme w (slice_index_or ts i d))) → StopsAt s w ts e
-stops (fault.At p) w ts i d s st fs h e (n, q) = (i, fails_at w ts i d s st h e n, q ∙ sym (offset_at w ts i d h))
-stops fault.NoMemory w ts i d s st fs h e t = tt
+  fails_at : step st (lexeme w (slice_index_or ts i d)) ≡ None → Fails s (lexemes w ts) i
+  fails_at n = record {
+    within = omega (arith, h, length-map ts (lexeme w));
+    state = st;
+    begun = ap (run (start s)) (take-map (lexeme w) i ts) ∙ e;
+    refused = λ l. ap (run (start s)) (take-map (lexeme w) (i + 1) ts) ∙ loop_next ∙ n;
+    unfinished = λ q. absurd (omega (arith, h, q, length-map ts (lexeme w)));
+  }
+
+  pub stops : (f : ParseFault) (fs : List Kept)
+      → Takes (Err f) fs (slice_index_or ts i d) (step st (lexeme w (slice_index_or ts i d))) → StopsAt s w ts f
+  stops (fault.At p) fs (n, q) = (i, fails_at n, q ∙ sym (offset_at w ts i d h))
+  stops fault.NoMemory fs t = tt
 
 -- ---- the end
 

@@ -14,6 +14,7 @@ use crate::frames::{Frame, Head, Mode};
 use crate::levels::LIMIT;
 use crate::raw::{RawExpr, RawOp, Shape};
 use crate::stack::Stack;
+use crate::takes::passed;
 use base_core::NoMemory;
 use std::alloc::Global;
 
@@ -22,10 +23,7 @@ use std::alloc::Global;
 fn takes_first(stack: &Stack, op: RawOp, fits: bool) -> bool
     ensures { result ≡ takes_first (operator op) fits (frames stack.now) }
 {
-    match stack.first() {
-        Some(Frame::Governor(head)) => !(fits && op.level() <= head.room()),
-        _ => false,
-    }
+    passed(stack.frames(), op, fits).is_some()
 }
 
 /// Takes the head that has the operand before the operator could.

@@ -108,7 +108,7 @@ fn takes_in_group(binder: &Binder, names: &RawNames, stack: &Stack, kind: &Kind)
 /// The newest head and the frames before it, where it takes the operand behind it before the operator could; `fits`
 /// says whether the operator may have the operand on its left.
 #[tactic(auto, using(crate::proofs::Stacks::laws))]
-fn passed(frames: &[Frame], op: RawOp, fits: bool) -> Option<(&Head, &[Frame])>
+pub fn passed(frames: &[Frame], op: RawOp, fits: bool) -> Option<(&Head, &[Frame])>
     ensures { MatchOption result
         (takes_first (operator op) fits (meaning (stacked frames.now)) ≡ false)
         (λ p. (stacked frames.now ≡ Governor p.0.now ∷ stacked p.1.now)

@@ -8,8 +8,8 @@ use Rattle.vern_parse.proofs.read.read.Goals as goal
 pub returns-in_err-mode-clause-fault : goal.returns-in_err-mode-clause-fault
 returns-in_err-mode-clause-fault c =
     let p = err_from_is_err_and c.from_residual.result c.from_residual.ensures.1 in
-    rw (p.1, p.2) (stops c.in_err-mode.field-0.0 c.args.sentence.now c.args.tokens.now c.tokens.i _ _
-    (at (mode c.tokens.mode) (frames c.tokens.stack)) _ (omega arith) c.tokens.invariant.0 c.in_err-mode.ensures.exact)
+    rw (p.1, p.2) (stops c.args.sentence.now c.args.tokens.now c.tokens.i _ _ (at (mode c.tokens.mode) (frames c.tokens.stack))
+    (omega arith) c.tokens.invariant.0 c.in_err-mode.field-0.0 _ c.in_err-mode.ensures.exact)
 
 pub tokens-preserved : goal.tokens-preserved
 tokens-preserved c = (
