@@ -99,175 +99,170 @@ pub focused : {State : Type 0} (L : Check State) (w : Work State) (d : Document)
     → Member w (item_works L L.start d.items ++ focus_works L (through L L.start (entries d.items)) f)
 focused L w d f e m = subst (λ g. Member w (item_works L L.start d.items ++ focus_works L (through L L.start (entries d.items)) g)) e m
 
--- a zone whose inside or closer changes
-pub zone_works : {State : Type 0} (L : Check State) → Laws L
-    → (w : Work State) (s : State) (l : Entry) (b f : List Entry) (c k : Entry) (t : List Item) (o : End)
-    → Every IsInner b → Every IsInner f → reopens c.sentence.kind ≡ true → reopens k.sentence.kind ≡ true
-    → focus_works L s (zone l b c t o) ≡ focus_works L s (zone l f k t o)
-zone_works L laws w s l b f c k t o hb hf rc rk = ap (λ u. item_works L u t) (behind_same L laws s l b f c k hb hf rc rk)
+-- a zone whose block can be opened again
+module _ {State : Type 0} (L : Check State) (laws : Laws L) (w : Work State) (l : Entry) (b : List Entry) (c : Entry) (t : List Item)
+    (o : End) (hb : Every IsInner b) (rc : reopens c.sentence.kind ≡ true) where
+  -- with another inside and closer
+  pub zone_works : (s : State) (f : List Entry) (k : Entry) → Every IsInner f → reopens k.sentence.kind ≡ true
+      → focus_works L s (zone l b c t o) ≡ focus_works L s (zone l f k t o)
+  zone_works s f k hf rk = ap (λ u. item_works L u t) (behind_same L laws s l b f c k hb hf rc rk)
 
--- what a zone with its block closed is among the items
-fold_works : {State : Type 0} (L : Check State) → Laws L
-    → (w : Work State) (a t : List Item) (l : Entry) (b : List Entry) (c k : Entry) (o : End)
-    → Every IsInner b → reopens c.sentence.kind ≡ true → reopens k.sentence.kind ≡ true
-    → Member w (item_works L L.start a ++ focus_works L (through L L.start (entries a)) (zone l b c t o))
-    → Member w (item_works L L.start (a ++ (block l (fall true b) k ∷ t)) ++ [])
-fold_works L laws w a t l b c k o hb rc rk m =
-    member_left w _ [] (subst (λ z. Member w z) (sym (works_join L L.start a (block l (fall true b) k ∷ t)))
-    (go (member_parts w (item_works L L.start a) _ m)))
-  where
-    go : Member w (item_works L L.start a) ⊎ Member w (item_works L (through L (through L L.start (entries a)) (l ∷ (b ++ (c ∷ [])))) t)
-        → Member w (item_works L L.start a ++ item_works L (through L L.start (entries a)) (block l (fall true b) k ∷ t))
-    go (inl h) = member_left w (item_works L L.start a) _ h
-    go (inr h) = member_right w (item_works L L.start a) _
-        (member_right w (works_of L (through L L.start (entries a)) (block l (fall true b) k)) _
-        (subst (λ u. Member w (item_works L u t)) (behind_same L laws (through L L.start (entries a)) l b (fall true b) c k hb
-        (inner_fall true b hb) rc rk) h))
+  -- what it is among the items, when its block is closed
+  fold_works : (a : List Item) (k : Entry) → reopens k.sentence.kind ≡ true
+      → Member w (item_works L L.start a ++ focus_works L (through L L.start (entries a)) (zone l b c t o))
+      → Member w (item_works L L.start (a ++ (block l (fall true b) k ∷ t)) ++ [])
+  fold_works a k rk m =
+      member_left w _ [] (subst (λ z. Member w z) (sym (works_join L L.start a (block l (fall true b) k ∷ t)))
+      (go (member_parts w (item_works L L.start a) _ m)))
+    where
+      go : Member w (item_works L L.start a) ⊎ Member w (item_works L (through L (through L L.start (entries a)) (l ∷ (b ++ (c ∷ [])))) t)
+          → Member w (item_works L L.start a ++ item_works L (through L L.start (entries a)) (block l (fall true b) k ∷ t))
+      go (inl h) = member_left w (item_works L L.start a) _ h
+      go (inr h) = member_right w (item_works L L.start a) _
+          (member_right w (works_of L (through L L.start (entries a)) (block l (fall true b) k)) _
+          (subst (λ u. Member w (item_works L u t)) (behind_same L laws (through L L.start (entries a)) l b (fall true b) c k hb
+          (inner_fall true b hb) rc rk) h))
 
 -- ---- each case
 
 reopening : (x : Sentence) (k : Kind) → x.kind ≡ k → reopens k ≡ true → reopens x.kind ≡ true
 reopening x k e r = subst (λ z. reopens z ≡ true) (sym e) r
 
-grows_plain : {State : Type 0} (L : Check State) (d : Document) (x : Sentence) → Sound d → d.focus ≡ last closed
-    → Grows L d (record { items = d.items ++ lone (fresh d x) ∷ []; focus = last closed; next = suc d.next; limit = d.limit })
-grows_plain L d x s e = let bound : s.middle ≤ d.next = subst (λ f. RisesFocus s.middle f d.next) e s.ends in
-    record {
-      works = λ w m. member_left w _ [] (more_items L w d.items _ L.start (at_end w _ (focused L w d (last closed) e m)));
-      sound = record {
-        items = every_join Formed d.items _ s.items (tt, tt);
-        focus = tt;
-        middle = s.middle;
-        rises = rises_append 0 s.middle s.middle d.items _ s.rises (le_refl s.middle);
-        ends = omega (arith, bound);
-      };
-    }
+module _ {State : Type 0} (L : Check State) (d : Document) (x : Sentence) (s : Sound d) where
+  grows_plain : d.focus ≡ last closed
+      → Grows L d (record { items = d.items ++ lone (fresh d x) ∷ []; focus = last closed; next = suc d.next; limit = d.limit })
+  grows_plain e = let bound : s.middle ≤ d.next = subst (λ f. RisesFocus s.middle f d.next) e s.ends in
+      record {
+        works = λ w m. member_left w _ [] (more_items L w d.items _ L.start (at_end w _ (focused L w d (last closed) e m)));
+        sound = record {
+          items = every_join Formed d.items _ s.items (tt, tt);
+          focus = tt;
+          middle = s.middle;
+          rises = rises_append 0 s.middle s.middle d.items _ s.rises (le_refl s.middle);
+          ends = omega (arith, bound);
+        };
+      }
 
-grows_begin : {State : Type 0} (L : Check State) (d : Document) (x : Sentence) → Sound d → d.focus ≡ last closed
-    → Grows L d (record { items = d.items; focus = last (proof (fresh d x) []); next = suc d.next; limit = d.limit })
-grows_begin L d x s e = let bound : s.middle ≤ d.next = subst (λ f. RisesFocus s.middle f d.next) e s.ends in
-    record {
-      works = λ w m. focused L w d (last closed) e m;
-      sound = record { items = s.items; focus = tt; middle = s.middle; rises = s.rises; ends = (bound, le_refl (suc d.next)) };
-    }
+  grows_begin : d.focus ≡ last closed
+      → Grows L d (record { items = d.items; focus = last (proof (fresh d x) []); next = suc d.next; limit = d.limit })
+  grows_begin e = let bound : s.middle ≤ d.next = subst (λ f. RisesFocus s.middle f d.next) e s.ends in
+      record {
+        works = λ w m. focused L w d (last closed) e m;
+        sound = record { items = s.items; focus = tt; middle = s.middle; rises = s.rises; ends = (bound, le_refl (suc d.next)) };
+      }
 
-grows_inner : {State : Type 0} (L : Check State) (d : Document) (x : Sentence) (l : Entry) (b : List Entry) → Sound d → x.kind ≡ inner
-    → d.focus ≡ last (proof l b)
-    → Grows L d (record { items = d.items; focus = last (proof l (b ++ fresh d x ∷ [])); next = suc d.next; limit = d.limit })
-grows_inner L d x l b s k e = let bound : (s.middle ≤ l.id) × (suc l.id ≤ d.next) = subst (λ f. RisesFocus s.middle f d.next) e s.ends in
-    let inside : Every IsInner b = subst FormedFocus e s.focus in
-    record {
-      works = λ w m. focused L w d (last (proof l b)) e m;
-      sound = record {
-        items = s.items;
-        focus = every_join IsInner b _ inside (k, tt);
-        middle = s.middle;
-        rises = s.rises;
-        ends = (bound.0, omega (arith, bound.1));
-      };
-    }
+  grows_inner : (l : Entry) (b : List Entry) → x.kind ≡ inner → d.focus ≡ last (proof l b)
+      → Grows L d (record { items = d.items; focus = last (proof l (b ++ fresh d x ∷ [])); next = suc d.next; limit = d.limit })
+  grows_inner l b k e = let bound : (s.middle ≤ l.id) × (suc l.id ≤ d.next) = subst (λ f. RisesFocus s.middle f d.next) e s.ends in
+      let inside : Every IsInner b = subst FormedFocus e s.focus in
+      record {
+        works = λ w m. focused L w d (last (proof l b)) e m;
+        sound = record {
+          items = s.items;
+          focus = every_join IsInner b _ inside (k, tt);
+          middle = s.middle;
+          rises = s.rises;
+          ends = (bound.0, omega (arith, bound.1));
+        };
+      }
 
-grows_zone : {State : Type 0} (L : Check State) → Laws L
-    → (d : Document) (x : Sentence) (l : Entry) (b : List Entry) (c : Entry) (t : List Item) (o : End)
-    → Sound d → x.kind ≡ inner → d.focus ≡ zone l b c t o
-    → Grows L d (record {
-      items = d.items;
-      focus = zone l (b ++ fresh d x ∷ []) (set (λ u. false) c) t o;
-      next = suc d.next;
-      limit = d.limit;
-    })
-grows_zone L laws d x l b c t o s k e =
-    let bound : (s.middle ≤ l.id) × ((m : ℕ) × (Rises (suc l.id) t m × RisesEnd m o d.next)) =
-    subst (λ f. RisesFocus s.middle f d.next) e s.ends in
-    let inside : Every IsInner b × ((reopens c.sentence.kind ≡ true) × (Every Formed t × FormedEnd o)) = subst FormedFocus e s.focus in
-    let all : Every IsInner (b ++ fresh d x ∷ []) = every_join IsInner b _ inside.0 (k, tt) in
-    record {
-      works = λ w m. subst (λ z. Member w (item_works L L.start d.items ++ z))
-          (zone_works L laws w (through L L.start (entries d.items)) l b (b ++ fresh d x ∷ []) c (set (λ u. false) c) t o
-          inside.0 all inside.1.0 inside.1.0) (focused L w d (zone l b c t o) e m);
-      sound = record {
-        items = s.items;
-        focus = (all, (inside.1.0, inside.1.1));
-        middle = s.middle;
-        rises = s.rises;
-        ends = (bound.0, (bound.1.0, (bound.1.1.0, end_more bound.1.0 d.next (suc d.next) o (omega arith) bound.1.1.1)));
-      };
-    }
+  grows_zone : Laws L → (l : Entry) (b : List Entry) (c : Entry) (t : List Item) (o : End) → x.kind ≡ inner → d.focus ≡ zone l b c t o
+      → Grows L d (record {
+        items = d.items;
+        focus = zone l (b ++ fresh d x ∷ []) (set (λ u. false) c) t o;
+        next = suc d.next;
+        limit = d.limit;
+      })
+  grows_zone laws l b c t o k e =
+      let bound : (s.middle ≤ l.id) × ((m : ℕ) × (Rises (suc l.id) t m × RisesEnd m o d.next)) =
+      subst (λ f. RisesFocus s.middle f d.next) e s.ends in
+      let inside : Every IsInner b × ((reopens c.sentence.kind ≡ true) × (Every Formed t × FormedEnd o)) = subst FormedFocus e s.focus in
+      let all : Every IsInner (b ++ fresh d x ∷ []) = every_join IsInner b _ inside.0 (k, tt) in
+      record {
+        works = λ w m. subst (λ z. Member w (item_works L L.start d.items ++ z))
+            (zone_works L laws w l b c t o inside.0 inside.1.0 (through L L.start (entries d.items)) (b ++ fresh d x ∷ [])
+            (set (λ u. false) c) all inside.1.0) (focused L w d (zone l b c t o) e m);
+        sound = record {
+          items = s.items;
+          focus = (all, (inside.1.0, inside.1.1));
+          middle = s.middle;
+          rises = s.rises;
+          ends = (bound.0, (bound.1.0, (bound.1.1.0, end_more bound.1.0 d.next (suc d.next) o (omega arith) bound.1.1.1)));
+        };
+      }
 
-grows_close : {State : Type 0} (L : Check State) (d : Document) (x : Sentence) (l : Entry) (b : List Entry) → Sound d
-    → d.focus ≡ last (proof l b)
-    → Grows L d (record {
-      items = d.items ++ block l (fall (delegates x.kind) b) (fresh d x) ∷ [];
-      focus = last closed;
-      next =
-          suc d.next;
-      limit = d.limit;
-    })
-grows_close L d x l b s e = let bound : (s.middle ≤ l.id) × (suc l.id ≤ d.next) = subst (λ f. RisesFocus s.middle f d.next) e s.ends in
-    let inside : Every IsInner b = subst FormedFocus e s.focus in
-    record {
-      works = λ w m. member_left w _ [] (more_items L w d.items _ L.start (at_end w _ (focused L w d (last (proof l b)) e m)));
-      sound = record {
-        items = every_join Formed d.items _ s.items (inner_fall (delegates x.kind) b inside, tt);
-        focus = tt;
-        middle = d.next;
-        rises = rises_append 0 s.middle d.next d.items _ s.rises (bound.0, bound.1);
-        ends = omega arith;
-      };
-    }
+  grows_close : (l : Entry) (b : List Entry) → d.focus ≡ last (proof l b)
+      → Grows L d (record {
+        items = d.items ++ block l (fall (delegates x.kind) b) (fresh d x) ∷ [];
+        focus = last closed;
+        next =
+            suc d.next;
+        limit = d.limit;
+      })
+  grows_close l b e = let bound : (s.middle ≤ l.id) × (suc l.id ≤ d.next) = subst (λ f. RisesFocus s.middle f d.next) e s.ends in
+      let inside : Every IsInner b = subst FormedFocus e s.focus in
+      record {
+        works = λ w m. member_left w _ [] (more_items L w d.items _ L.start (at_end w _ (focused L w d (last (proof l b)) e m)));
+        sound = record {
+          items = every_join Formed d.items _ s.items (inner_fall (delegates x.kind) b inside, tt);
+          focus = tt;
+          middle = d.next;
+          rises = rises_append 0 s.middle d.next d.items _ s.rises (bound.0, bound.1);
+          ends = omega arith;
+        };
+      }
 
-grows_fold : {State : Type 0} (L : Check State) → Laws L
-    → (d : Document) (x : Sentence) (l : Entry) (b : List Entry) (c : Entry) (t : List Item) (o : End)
-    → Sound d → reopens x.kind ≡ true → d.focus ≡ zone l b c t o → Grows L d (refolded d x l b c t o)
-grows_fold L laws d x l b c t o s k e =
-    let bound : (s.middle ≤ l.id) × ((m : ℕ) × (Rises (suc l.id) t m × RisesEnd m o d.next)) =
-    subst (λ f. RisesFocus s.middle f d.next) e s.ends in
-    let inside : Every IsInner b × ((reopens c.sentence.kind ≡ true) × (Every Formed t × FormedEnd o)) = subst FormedFocus e s.focus in
-    record {
-      works = λ w m. fold_works L laws w d.items t l b c (untold c.id x) o inside.0 inside.1.0 k (focused L w d (zone l b c t o) e m);
-      sound = record {
-        items = every_join Formed d.items _ s.items (inner_fall true b inside.0, inside.1.1.0);
-        focus = inside.1.1.1;
-        middle = bound.1.0;
-        rises = rises_append 0 s.middle bound.1.0 d.items _ s.rises (bound.0, bound.1.1.0);
-        ends = bound.1.1.1;
-      };
-    }
+  grows_fold : Laws L → (l : Entry) (b : List Entry) (c : Entry) (t : List Item) (o : End) → reopens x.kind ≡ true
+      → d.focus ≡ zone l b c t o → Grows L d (refolded d x l b c t o)
+  grows_fold laws l b c t o k e =
+      let bound : (s.middle ≤ l.id) × ((m : ℕ) × (Rises (suc l.id) t m × RisesEnd m o d.next)) =
+      subst (λ f. RisesFocus s.middle f d.next) e s.ends in
+      let inside : Every IsInner b × ((reopens c.sentence.kind ≡ true) × (Every Formed t × FormedEnd o)) = subst FormedFocus e s.focus in
+      record {
+        works = λ w m. fold_works L laws w l b c t o inside.0 inside.1.0 d.items (untold c.id x) k (focused L w d (zone l b c t o) e m);
+        sound = record {
+          items = every_join Formed d.items _ s.items (inner_fall true b inside.0, inside.1.1.0);
+          focus = inside.1.1.1;
+          middle = bound.1.0;
+          rises = rises_append 0 s.middle bound.1.0 d.items _ s.rises (bound.0, bound.1.1.0);
+          ends = bound.1.1.1;
+        };
+      }
 
-attempt_at_grows : {State : Type 0} (L : Check State) → Laws L → (d : Document) (p : ℕ) (x : Sentence) → Sound d → (k : Kind) (f : Focus)
-    → x.kind ≡ k → d.focus ≡ f → IfAdded (Grows L d) (attempt_at d p x k f)
-attempt_at_grows L laws d p x s plain (last closed) ek ef = if_grown (Grows L d) d p _ _ (grows_plain L d x s ef)
-attempt_at_grows L laws d p x s plain (last (proof l b)) ek ef = tt
-attempt_at_grows L laws d p x s plain (zone l b c t o) ek ef = tt
-attempt_at_grows L laws d p x s begin (last closed) ek ef = if_grown (Grows L d) d p _ _ (grows_begin L d x s ef)
-attempt_at_grows L laws d p x s begin (last (proof l b)) ek ef = tt
-attempt_at_grows L laws d p x s begin (zone l b c t o) ek ef = tt
-attempt_at_grows L laws d p x s inner (last closed) ek ef = tt
-attempt_at_grows L laws d p x s inner (last (proof l b)) ek ef = if_grown (Grows L d) d p _ _ (grows_inner L d x l b s ek ef)
-attempt_at_grows L laws d p x s inner (zone l b c t o) ek ef = if_grown (Grows L d) d p _ _ (grows_zone L laws d x l b c t o s ek ef)
-attempt_at_grows L laws d p x s (close k) (last closed) ek ef = tt
-attempt_at_grows L laws d p x s (close k) (last (proof l b)) ek ef = if_grown (Grows L d) d p _ _ (grows_close L d x l b s ef)
-attempt_at_grows L laws d p x s (close qed) (zone l b c t o) ek ef = grows_fold L laws d x l b c t o s (reopening x (close qed) ek refl) ef
-attempt_at_grows L laws d p x s (close admitted) (zone l b c t o) ek ef = grows_fold L laws d x l b c t o s
-    (reopening x (close admitted) ek refl) ef
-attempt_at_grows L laws d p x s (close defined) (zone l b c t o) ek ef = tt
-attempt_at_grows L laws d p x s (close abort) (zone l b c t o) ek ef = tt
+  attempt_at_grows : Laws L → (p : ℕ) (k : Kind) (f : Focus) → x.kind ≡ k → d.focus ≡ f → IfAdded (Grows L d) (attempt_at d p x k f)
+  attempt_at_grows laws p plain (last closed) ek ef = if_grown (Grows L d) d p _ _ (grows_plain ef)
+  attempt_at_grows laws p plain (last (proof l b)) ek ef = tt
+  attempt_at_grows laws p plain (zone l b c t o) ek ef = tt
+  attempt_at_grows laws p begin (last closed) ek ef = if_grown (Grows L d) d p _ _ (grows_begin ef)
+  attempt_at_grows laws p begin (last (proof l b)) ek ef = tt
+  attempt_at_grows laws p begin (zone l b c t o) ek ef = tt
+  attempt_at_grows laws p inner (last closed) ek ef = tt
+  attempt_at_grows laws p inner (last (proof l b)) ek ef = if_grown (Grows L d) d p _ _ (grows_inner l b ek ef)
+  attempt_at_grows laws p inner (zone l b c t o) ek ef = if_grown (Grows L d) d p _ _ (grows_zone laws l b c t o ek ef)
+  attempt_at_grows laws p (close k) (last closed) ek ef = tt
+  attempt_at_grows laws p (close k) (last (proof l b)) ek ef = if_grown (Grows L d) d p _ _ (grows_close l b ef)
+  attempt_at_grows laws p (close qed) (zone l b c t o) ek ef = grows_fold laws l b c t o (reopening x (close qed) ek refl) ef
+  attempt_at_grows laws p (close admitted) (zone l b c t o) ek ef = grows_fold laws l b c t o
+      (reopening x (close admitted) ek refl) ef
+  attempt_at_grows laws p (close defined) (zone l b c t o) ek ef = tt
+  attempt_at_grows laws p (close abort) (zone l b c t o) ek ef = tt
 
 pub attempt_grows : {State : Type 0} (L : Check State) → Laws L → (d : Document) (p : ℕ) (x : Sentence) → Sound d
     → IfAdded (Grows L d) (attempt d p x)
-attempt_grows L laws d p x s = attempt_at_grows L laws d p x s x.kind d.focus refl refl
+attempt_grows L laws d p x s = attempt_at_grows L d x s laws p x.kind d.focus refl refl
 
 -- ---- an Add
 
-add_step_grows : {State : Type 0} (L : Check State) (tag : List ℕ) (p q : ℕ) (d : Document) (e : Tried) (more : Document → Ran) → Sound d
-    → IfAdded (Grows L d) e
-    → ((d : Document) → Sound d → Grows L d (more d).document) → Grows L d (add_step tag p q d e more).document
-add_step_grows L tag p q d (refused r) more s h k = record { works = λ w m. m; sound = s }
-add_step_grows L tag p q d (added e i t) more s h k = record {
-  works = λ w m. (k e h.sound).works w (h.works w m);
-  sound =
-      (k e h.sound).sound;
-}
+module _ {State : Type 0} (L : Check State) (tag : List ℕ) where
+  add_step_grows : (p q : ℕ) (d : Document) (e : Tried) (more : Document → Ran) → Sound d
+      → IfAdded (Grows L d) e
+      → ((d : Document) → Sound d → Grows L d (more d).document) → Grows L d (add_step tag p q d e more).document
+  add_step_grows p q d (refused r) more s h k = record { works = λ w m. m; sound = s }
+  add_step_grows p q d (added e i t) more s h k = record {
+    works = λ w m. (k e h.sound).works w (h.works w m);
+    sound =
+        (k e h.sound).sound;
+  }
 
 pub add_all_grows : {State : Type 0} (L : Check State) → Laws L → (tag : List ℕ) (ps : List Piece) (d : Document) → Sound d
     → Grows L d (add_all tag ps d).document

@@ -290,35 +290,36 @@ stopped_pending L d idle es = refl
 stopped_pending L d (joining tag) es = refl
 stopped_pending L d over es = refl
 
--- what one thread answers doesn't depend on events that end no Join and leave what one thread has
-quiet : {State : Type 0} (L : Check State) (p : Standing State) (d : Document) (es hs : List Event) → forget d ≡ forget p.document
-    → fate es ≡ fate hs
-    → requests es ≡ requests hs → outcomes es ≡ outcomes hs
-    → pending L (forget d) p.mode es ++ answers_from L (forget d) (requests es) (outcomes es) ≡ rest L p hs
-quiet L p d es hs e f r o = (λ i. pending L (e i) p.mode es ++ answers_from L (e i) (r i) (o i))
-    ∙ ap (λ z. z ++ answers_from L (forget p.document) (requests hs) (outcomes hs)) (same_pending L (forget p.document) p.mode es hs f)
+module _ {State : Type 0} (L : Check State) (p : Standing State) where
+  -- what one thread answers doesn't depend on events that end no Join and leave what one thread has
+  quiet : (d : Document) (es hs : List Event) → forget d ≡ forget p.document
+      → fate es ≡ fate hs
+      → requests es ≡ requests hs → outcomes es ≡ outcomes hs
+      → pending L (forget d) p.mode es ++ answers_from L (forget d) (requests es) (outcomes es) ≡ rest L p hs
+  quiet d es hs e f r o = (λ i. pending L (e i) p.mode es ++ answers_from L (e i) (r i) (o i))
+      ∙ ap (λ z. z ++ answers_from L (forget p.document) (requests hs) (outcomes hs)) (same_pending L (forget p.document) p.mode es hs f)
 
--- a command's lines, and what one thread answers behind it
-after_command : {State : Type 0} (L : Check State) (p : Standing State) (n : ℕ) (q : Request) (cut : Cut) (ls : List Line) (es : List Event)
-    → IsCommand L p n q cut ls
-    → ls ++ rest L (step L p (command n q cut ls)) es ≡ rest L p (command n q cut ls ∷ es)
-after_command L p n q cut ls es h =
-    let a = answer L p.document q cut in
-    let o : Outcomes = record { cut = cut; fate = fate es } in
-    let behind : Document → List Line = λ d. answers_from L d (requests es) (outcomes es) in
-    let one : ls ++ rest L (step L p (command n q cut ls)) es ≡ a.lines ++ (pending L (forget a.document) (mode_after q cut) es
-    ++ behind (forget a.document)) =
-    ap (λ z. z ++ (pending L (forget a.document) (mode_after q cut) es ++ behind (forget a.document))) h.lines in
-    let two : a.lines ++ (pending L (forget a.document) (mode_after q cut) es ++ behind (forget a.document)) ≡ a.lines
-    ++ (closing L (forget a.document) q o ++ behind (forget a.document)) =
-    ap (λ z. a.lines ++ (z ++ behind (forget a.document))) (sym (pending_behind L (forget a.document) q cut es)) in
-    let three : a.lines ++ (closing L (forget a.document) q o ++ behind (forget a.document)) ≡ answers_from L
-    (forget p.document) (q ∷ requests es) (o ∷ outcomes es) =
-    ap (λ b. b.lines ++ (closing L b.document q o ++ behind b.document)) (sym (answer_forget L p.document q cut)) in
-    let four : answers_from L (forget p.document) (q ∷ requests es) (o ∷ outcomes es) ≡ rest L p (command n q cut ls ∷ es) =
-    ap (λ z. z ++ answers_from L (forget p.document) (q ∷ requests es) (o ∷ outcomes es))
-    (sym (idle_pending L (forget p.document) p.mode (command n q cut ls ∷ es) h.idle)) in
-    one ∙ two ∙ three ∙ four
+  -- a command's lines, and what one thread answers behind it
+  after_command : (n : ℕ) (q : Request) (cut : Cut) (ls : List Line) (es : List Event)
+      → IsCommand L p n q cut ls
+      → ls ++ rest L (step L p (command n q cut ls)) es ≡ rest L p (command n q cut ls ∷ es)
+  after_command n q cut ls es h =
+      let a = answer L p.document q cut in
+      let o : Outcomes = record { cut = cut; fate = fate es } in
+      let behind : Document → List Line = λ d. answers_from L d (requests es) (outcomes es) in
+      let one : ls ++ rest L (step L p (command n q cut ls)) es ≡ a.lines ++ (pending L (forget a.document) (mode_after q cut) es
+      ++ behind (forget a.document)) =
+      ap (λ z. z ++ (pending L (forget a.document) (mode_after q cut) es ++ behind (forget a.document))) h.lines in
+      let two : a.lines ++ (pending L (forget a.document) (mode_after q cut) es ++ behind (forget a.document)) ≡ a.lines
+      ++ (closing L (forget a.document) q o ++ behind (forget a.document)) =
+      ap (λ z. a.lines ++ (z ++ behind (forget a.document))) (sym (pending_behind L (forget a.document) q cut es)) in
+      let three : a.lines ++ (closing L (forget a.document) q o ++ behind (forget a.document)) ≡ answers_from L
+      (forget p.document) (q ∷ requests es) (o ∷ outcomes es) =
+      ap (λ b. b.lines ++ (closing L b.document q o ++ behind b.document)) (sym (answer_forget L p.document q cut)) in
+      let four : answers_from L (forget p.document) (q ∷ requests es) (o ∷ outcomes es) ≡ rest L p (command n q cut ls ∷ es) =
+      ap (λ z. z ++ answers_from L (forget p.document) (q ∷ requests es) (o ∷ outcomes es))
+      (sym (idle_pending L (forget p.document) p.mode (command n q cut ls ∷ es) h.idle)) in
+      one ∙ two ∙ three ∙ four
 
 pub strip_rest : {State : Type 0} (L : Check State) (p : Standing State) (h : List Event) → LegalFrom L p h
     → strip_from L p h ≡ rest L p h

@@ -174,100 +174,103 @@ not_one d a r p h e = let b = (every_parts (λ m. (2 ≤ m) × (m < d.next)) a (
 edit_is : (d : Document) (p : ℕ) (s : Seat) → (nat_eq 1 p) ≡ false → seat p d ≡ s → edit d p ≡ edit_at s d
 edit_is d p s o e = ap (λ b. if b then changed (refocus [] (last closed) d) else edit_at (seat p d) d) o ∙ ap (λ x. edit_at x d) e
 
-pub inner_is_edit : (d : Document) (a t : List Item) (l : Entry) (f : List Entry) (e : Entry) (k : List Entry) (c : Entry) → HasIds d
-    → d.items ≡ a ++ (block l (f ++ (e ∷ k)) c ∷ t)
-    → edit d (last_or l.id (named f)) ≡ changed (reenter d.focus a l f c t d)
-inner_is_edit d a t l f e k c h q = go (back f)
-  where
-    parts : (g : List Entry) → f ≡ g
-        → line d ≡ (of_items a ++ ((l.id ∷ ((named g ++ named (e ∷ k)) ++ (c.id ∷ []))) ++ of_items t)) ++ named (focus_entries d.focus)
-    parts g z = with_block d a t l (f ++ (e ∷ k)) g (e ∷ k) c q (ap (λ v. v ++ (e ∷ k)) z)
+module _ (d : Document) (h : HasIds d) where
+  pub inner_is_edit : (a t : List Item) (l : Entry) (f : List Entry) (e : Entry) (k : List Entry) (c : Entry)
+      → d.items ≡ a ++ (block l (f ++ (e ∷ k)) c ∷ t)
+      → edit d (last_or l.id (named f)) ≡ changed (reenter d.focus a l f c t d)
+  inner_is_edit a t l f e k c q = go (back f)
+    where
+      parts : (g : List Entry) → f ≡ g
+          → line d ≡ (of_items a ++ ((l.id ∷ ((named g ++ named (e ∷ k)) ++ (c.id ∷ []))) ++ of_items t)) ++ named (focus_entries d.focus)
+      parts g z = with_block d a t l (f ++ (e ∷ k)) g (e ∷ k) c q (ap (λ v. v ++ (e ∷ k)) z)
 
-    go : (f ≡ []) ⊎ ((g : List Entry) × ((y : Entry) × (f ≡ g ++ (y ∷ []))))
-        → edit d (last_or l.id (named f)) ≡ changed (reenter d.focus a l f c t d)
-    go (inl z) =
-        let w = parts [] z ∙ at_first (of_items a) (e.id ∷ named k) (of_items t) (named (focus_entries d.focus)) l.id c.id in
-        let free = absent_before l.id (of_items a) _ (subst Distinct w h.distinct) in
-        let found_at : locate l.id d.items ≡ at_lemma a l (f ++ (e ∷ k)) c t = ap (locate l.id) q
-        ∙ locate_skips l.id a (block l (f ++ (e ∷ k)) c ∷ t) free
-        ∙ ap (unders a) (ap (λ b. if b then at_lemma [] l (f ++ (e ∷ k)) c t else inside l.id l (f ++ (e ∷ k)) c t
-        (split l.id (f ++ (e ∷ k))) (under (block l (f ++ (e ∷ k)) c) (locate l.id t))) (test_same l.id))
-        ∙ unders_lemma a l (f ++ (e ∷ k)) c t in
-        ap (λ v. edit d (last_or l.id (named v))) z
-        ∙ edit_is d l.id (among (at_lemma a l (f ++ (e ∷ k)) c t)) (not_one d (of_items a) _ l.id h w)
-        (ap (λ s. seat_or s (in_focus l.id d.focus)) found_at)
-        ∙ ap (λ v. changed (reenter d.focus a l v c t d)) (sym z)
-    go (inr r) =
-        let g = r.0 in
-        let y = r.1.0 in
-        let w = parts (g ++ (y ∷ [])) r.1.1
-        ∙ ap (λ v. (of_items a ++ ((l.id ∷ ((v ++ named (e ∷ k)) ++ (c.id ∷ []))) ++ of_items t))
-        ++ named (focus_entries d.focus)) (map_join (λ x. x.id) g (y ∷ []))
-        ∙ at_inside (of_items a) (named g) (named (e ∷ k)) (of_items t) (named (focus_entries d.focus)) l.id y.id c.id in
-        let free = absent_parts y.id (of_items a) (l.id ∷ named g) (absent_before y.id (of_items a ++ (l.id ∷ named g)) _
-        (subst Distinct w h.distinct)) in
-        let own = not_either (nat_eq y.id l.id) (has y.id (named g)) free.1 in
-        let same : f ++ (e ∷ k) ≡ g ++ (y ∷ (e ∷ k)) = ap (λ v. v ++ (e ∷ k)) r.1.1 ∙ append_assoc g (y ∷ []) (e ∷ k) in
-        let found_at : locate y.id d.items ≡ at_inner a l g y (e ∷ k) c t = ap (locate y.id) (q ∙ ap (λ v. a ++ (block l v c ∷ t)) same)
-        ∙ locate_skips y.id a (block l (g ++ (y ∷ (e ∷ k))) c ∷ t) free.0
-        ∙ ap (unders a) (ap (λ b. if b then at_lemma [] l (g ++ (y ∷ (e ∷ k))) c t else inside y.id l (g ++ (y ∷ (e ∷ k))) c
-        t (split y.id (g ++ (y ∷ (e ∷ k)))) (under (block l (g ++ (y ∷ (e ∷ k))) c) (locate y.id t))) own.0
-        ∙ ap (λ s. inside y.id l (g ++ (y ∷ (e ∷ k))) c t s (under (block l (g ++ (y ∷ (e ∷ k))) c) (locate y.id t)))
-        (split_found g y (e ∷ k) own.1))
-        ∙ unders_inner a l g y (e ∷ k) c t in
-        ap (edit d) (ap (λ v. last_or l.id (named v)) r.1.1 ∙ last_of l.id g y)
-        ∙ edit_is d y.id (among (at_inner a l g y (e ∷ k) c t)) (not_one d (of_items a ++ (l.id ∷ named g)) _ y.id h w)
-        (ap (λ s. seat_or s (in_focus y.id d.focus)) found_at)
-        ∙ ap (λ v. changed (reenter d.focus a l v c t d)) (sym r.1.1)
+      go : (f ≡ []) ⊎ ((g : List Entry) × ((y : Entry) × (f ≡ g ++ (y ∷ []))))
+          → edit d (last_or l.id (named f)) ≡ changed (reenter d.focus a l f c t d)
+      go (inl z) =
+          let w = parts [] z ∙ at_first (of_items a) (e.id ∷ named k) (of_items t) (named (focus_entries d.focus)) l.id c.id in
+          let free = absent_before l.id (of_items a) _ (subst Distinct w h.distinct) in
+          let found_at : locate l.id d.items ≡ at_lemma a l (f ++ (e ∷ k)) c t = ap (locate l.id) q
+          ∙ locate_skips l.id a (block l (f ++ (e ∷ k)) c ∷ t) free
+          ∙ ap (unders a) (ap (λ b. if b then at_lemma [] l (f ++ (e ∷ k)) c t else inside l.id l (f ++ (e ∷ k)) c t
+          (split l.id (f ++ (e ∷ k))) (under (block l (f ++ (e ∷ k)) c) (locate l.id t))) (test_same l.id))
+          ∙ unders_lemma a l (f ++ (e ∷ k)) c t in
+          ap (λ v. edit d (last_or l.id (named v))) z
+          ∙ edit_is d l.id (among (at_lemma a l (f ++ (e ∷ k)) c t)) (not_one d (of_items a) _ l.id h w)
+          (ap (λ s. seat_or s (in_focus l.id d.focus)) found_at)
+          ∙ ap (λ v. changed (reenter d.focus a l v c t d)) (sym z)
+      go (inr r) =
+          let g = r.0 in
+          let y = r.1.0 in
+          let w = parts (g ++ (y ∷ [])) r.1.1
+          ∙ ap (λ v. (of_items a ++ ((l.id ∷ ((v ++ named (e ∷ k)) ++ (c.id ∷ []))) ++ of_items t))
+          ++ named (focus_entries d.focus)) (map_join (λ x. x.id) g (y ∷ []))
+          ∙ at_inside (of_items a) (named g) (named (e ∷ k)) (of_items t) (named (focus_entries d.focus)) l.id y.id c.id in
+          let free = absent_parts y.id (of_items a) (l.id ∷ named g) (absent_before y.id (of_items a ++ (l.id ∷ named g)) _
+          (subst Distinct w h.distinct)) in
+          let own = not_either (nat_eq y.id l.id) (has y.id (named g)) free.1 in
+          let same : f ++ (e ∷ k) ≡ g ++ (y ∷ (e ∷ k)) = ap (λ v. v ++ (e ∷ k)) r.1.1 ∙ append_assoc g (y ∷ []) (e ∷ k) in
+          let found_at : locate y.id d.items ≡ at_inner a l g y (e ∷ k) c t = ap (locate y.id) (q ∙ ap (λ v. a ++ (block l v c ∷ t)) same)
+          ∙ locate_skips y.id a (block l (g ++ (y ∷ (e ∷ k))) c ∷ t) free.0
+          ∙ ap (unders a) (ap (λ b. if b then at_lemma [] l (g ++ (y ∷ (e ∷ k))) c t else inside y.id l (g ++ (y ∷ (e ∷ k))) c
+          t (split y.id (g ++ (y ∷ (e ∷ k)))) (under (block l (g ++ (y ∷ (e ∷ k))) c) (locate y.id t))) own.0
+          ∙ ap (λ s. inside y.id l (g ++ (y ∷ (e ∷ k))) c t s (under (block l (g ++ (y ∷ (e ∷ k))) c) (locate y.id t)))
+          (split_found g y (e ∷ k) own.1))
+          ∙ unders_inner a l g y (e ∷ k) c t in
+          ap (edit d) (ap (λ v. last_or l.id (named v)) r.1.1 ∙ last_of l.id g y)
+          ∙ edit_is d y.id (among (at_inner a l g y (e ∷ k) c t)) (not_one d (of_items a ++ (l.id ∷ named g)) _ y.id h w)
+          (ap (λ s. seat_or s (in_focus y.id d.focus)) found_at)
+          ∙ ap (λ v. changed (reenter d.focus a l v c t d)) (sym r.1.1)
 
--- the same in the block that is open at the cursor
-open_edit : (d : Document) (l : Entry) (f : List Entry) (e : Entry) (k : List Entry) (x : List ℕ) (other : ℕ → Seat) → HasIds d
-    → line d ≡ of_items d.items ++ (l.id ∷ (named (f ++ (e ∷ k)) ++ x))
-    → ((p : ℕ) → in_focus p d.focus ≡ in_proof p l (f ++ (e ∷ k)) (other p)) → edit d (last_or l.id (named f))
-    ≡ changed (refocus d.items (shorten d.focus f (e ∷ k)) d)
-open_edit d l f e k x other h w s = go (back f)
-  where
-    go : (f ≡ []) ⊎ ((g : List Entry) × ((y : Entry) × (f ≡ g ++ (y ∷ []))))
-        → edit d (last_or l.id (named f)) ≡ changed (refocus d.items (shorten d.focus f (e ∷ k)) d)
-    go (inl z) =
-        let free = absent_before l.id (of_items d.items) (named (f ++ (e ∷ k)) ++ x) (subst Distinct w h.distinct) in
-        let seated : seat l.id d ≡ open_lemma l (f ++ (e ∷ k)) = ap (λ v. seat_or v (in_focus l.id d.focus)) (locate_none l.id d.items free)
-        ∙ s l.id
-        ∙ ap (λ b. if b then open_lemma l (f ++ (e ∷ k)) else in_inside l (split l.id (f ++ (e ∷ k))) (other l.id)) (test_same l.id) in
-        ap (λ v. edit d (last_or l.id (named v))) z
-        ∙ edit_is d l.id (open_lemma l (f ++ (e ∷ k))) (not_one d (of_items d.items) (named (f ++ (e ∷ k)) ++ x) l.id h w) seated
-        ∙ ap (λ v. changed (refocus d.items (shorten d.focus [] (v ++ (e ∷ k))) d)) z
-        ∙ ap (λ v. changed (refocus d.items (shorten d.focus v (e ∷ k)) d)) (sym z)
-    go (inr r) =
-        let g = r.0 in
-        let y = r.1.0 in
-        let u = w ∙ ap (λ v. of_items d.items ++ (l.id ∷ (named (v ++ (e ∷ k)) ++ x))) r.1.1
-        ∙ ap (λ v. of_items d.items ++ (l.id ∷ (v ++ x))) (map_join (λ z. z.id) (g ++ (y ∷ [])) (e ∷ k) ∙
-        ap (λ v. v ++ named (e ∷ k)) (map_join (λ z. z.id) g (y ∷ [])))
-        ∙ open_inside (of_items d.items) (named g) (named (e ∷ k)) x l.id y.id in
-        let free = absent_parts y.id (of_items d.items) (l.id ∷ named g)
-        (absent_before y.id (of_items d.items ++ (l.id ∷ named g)) (named (e ∷ k) ++ x) (subst Distinct u h.distinct)) in
-        let own = not_either (nat_eq y.id l.id) (has y.id (named g)) free.1 in
-        let same : f ++ (e ∷ k) ≡ g ++ (y ∷ (e ∷ k)) = ap (λ v. v ++ (e ∷ k)) r.1.1 ∙ append_assoc g (y ∷ []) (e ∷ k) in
-        let seated : seat y.id d ≡ open_inner l g y (e ∷ k) = ap (λ v. seat_or v (in_focus y.id d.focus)) (locate_none y.id d.items free.0)
-        ∙ s y.id
-        ∙ ap (λ v. in_proof y.id l v (other y.id)) same
-        ∙ ap (λ b. if b then open_lemma l (g ++ (y ∷ (e ∷ k))) else in_inside l (split y.id (g ++ (y ∷ (e ∷ k)))) (other y.id)) own.0
-        ∙ ap (λ v. in_inside l v (other y.id)) (split_found g y (e ∷ k) own.1) in
-        ap (edit d) (ap (λ v. last_or l.id (named v)) r.1.1 ∙ last_of l.id g y)
-        ∙ edit_is d y.id (open_inner l g y (e ∷ k)) (not_one d (of_items d.items ++ (l.id ∷ named g)) (named (e ∷ k) ++ x)
-        y.id h u) seated
-        ∙ ap (λ v. changed (refocus d.items (shorten d.focus v (e ∷ k)) d)) (sym r.1.1)
+  -- the same in the block that is open at the cursor
+  open_edit : (l : Entry) (f : List Entry) (e : Entry) (k : List Entry) (x : List ℕ) (other : ℕ → Seat)
+      → line d ≡ of_items d.items ++ (l.id ∷ (named (f ++ (e ∷ k)) ++ x))
+      → ((p : ℕ) → in_focus p d.focus ≡ in_proof p l (f ++ (e ∷ k)) (other p)) → edit d (last_or l.id (named f))
+      ≡ changed (refocus d.items (shorten d.focus f (e ∷ k)) d)
+  open_edit l f e k x other w s = go (back f)
+    where
+      go : (f ≡ []) ⊎ ((g : List Entry) × ((y : Entry) × (f ≡ g ++ (y ∷ []))))
+          → edit d (last_or l.id (named f)) ≡ changed (refocus d.items (shorten d.focus f (e ∷ k)) d)
+      go (inl z) =
+          let free = absent_before l.id (of_items d.items) (named (f ++ (e ∷ k)) ++ x) (subst Distinct w h.distinct) in
+          let seated : seat l.id d ≡ open_lemma l (f ++ (e ∷ k)) =
+          ap (λ v. seat_or v (in_focus l.id d.focus)) (locate_none l.id d.items free)
+          ∙ s l.id
+          ∙ ap (λ b. if b then open_lemma l (f ++ (e ∷ k)) else in_inside l (split l.id (f ++ (e ∷ k))) (other l.id)) (test_same l.id) in
+          ap (λ v. edit d (last_or l.id (named v))) z
+          ∙ edit_is d l.id (open_lemma l (f ++ (e ∷ k))) (not_one d (of_items d.items) (named (f ++ (e ∷ k)) ++ x) l.id h w) seated
+          ∙ ap (λ v. changed (refocus d.items (shorten d.focus [] (v ++ (e ∷ k))) d)) z
+          ∙ ap (λ v. changed (refocus d.items (shorten d.focus v (e ∷ k)) d)) (sym z)
+      go (inr r) =
+          let g = r.0 in
+          let y = r.1.0 in
+          let u = w ∙ ap (λ v. of_items d.items ++ (l.id ∷ (named (v ++ (e ∷ k)) ++ x))) r.1.1
+          ∙ ap (λ v. of_items d.items ++ (l.id ∷ (v ++ x))) (map_join (λ z. z.id) (g ++ (y ∷ [])) (e ∷ k) ∙
+          ap (λ v. v ++ named (e ∷ k)) (map_join (λ z. z.id) g (y ∷ [])))
+          ∙ open_inside (of_items d.items) (named g) (named (e ∷ k)) x l.id y.id in
+          let free = absent_parts y.id (of_items d.items) (l.id ∷ named g)
+          (absent_before y.id (of_items d.items ++ (l.id ∷ named g)) (named (e ∷ k) ++ x) (subst Distinct u h.distinct)) in
+          let own = not_either (nat_eq y.id l.id) (has y.id (named g)) free.1 in
+          let same : f ++ (e ∷ k) ≡ g ++ (y ∷ (e ∷ k)) = ap (λ v. v ++ (e ∷ k)) r.1.1 ∙ append_assoc g (y ∷ []) (e ∷ k) in
+          let seated : seat y.id d ≡ open_inner l g y (e ∷ k) =
+          ap (λ v. seat_or v (in_focus y.id d.focus)) (locate_none y.id d.items free.0)
+          ∙ s y.id
+          ∙ ap (λ v. in_proof y.id l v (other y.id)) same
+          ∙ ap (λ b. if b then open_lemma l (g ++ (y ∷ (e ∷ k))) else in_inside l (split y.id (g ++ (y ∷ (e ∷ k)))) (other y.id)) own.0
+          ∙ ap (λ v. in_inside l v (other y.id)) (split_found g y (e ∷ k) own.1) in
+          ap (edit d) (ap (λ v. last_or l.id (named v)) r.1.1 ∙ last_of l.id g y)
+          ∙ edit_is d y.id (open_inner l g y (e ∷ k)) (not_one d (of_items d.items ++ (l.id ∷ named g)) (named (e ∷ k) ++ x)
+          y.id h u) seated
+          ∙ ap (λ v. changed (refocus d.items (shorten d.focus v (e ∷ k)) d)) (sym r.1.1)
 
-pub open_is_edit : (d : Document) (g : Focus) → d.focus ≡ g → (l : Entry) (f : List Entry) (e : Entry) (k : List Entry) → HasIds d
-    → IsOpen g l (f ++ (e ∷ k))
-    → edit d (last_or l.id (named f)) ≡ changed (refocus d.items (shorten d.focus f (e ∷ k)) d)
-open_is_edit d (last closed) q l f e k h o = absurd o
-open_is_edit d (last (proof m b)) q l f e k h o = open_edit d l f e k [] (λ p. nowhere) h
-    (with_focus d (last (proof m b)) q ∙ (λ i. of_items d.items ++ ((o.0 i).id ∷ named (o.1 i))) ∙
-    ap (λ v. of_items d.items ++ (l.id ∷ v)) (sym (append-nil (named (f ++ (e ∷ k))))))
-    (λ p. ap (in_focus p) q ∙ (λ i. in_proof p (o.0 i) (o.1 i) nowhere))
-open_is_edit d (zone m b c t z) q l f e k h o = open_edit d l f e k (c.id ∷ (of_items t ++ named (end_entries z))) (λ p. in_tail p c t z) h
-    (with_focus d (zone m b c t z) q ∙ ap (λ v. of_items d.items ++ v) (zone_parts m b c t z) ∙
-    (λ i. of_items d.items ++ ((o.0 i).id ∷ (named (o.1 i) ++ (c.id ∷ (of_items t ++ named (end_entries z)))))))
-    (λ p. ap (in_focus p) q ∙ (λ i. in_proof p (o.0 i) (o.1 i) (in_tail p c t z)))
+  pub open_is_edit : (g : Focus) → d.focus ≡ g → (l : Entry) (f : List Entry) (e : Entry) (k : List Entry)
+      → IsOpen g l (f ++ (e ∷ k))
+      → edit d (last_or l.id (named f)) ≡ changed (refocus d.items (shorten d.focus f (e ∷ k)) d)
+  open_is_edit (last closed) q l f e k o = absurd o
+  open_is_edit (last (proof m b)) q l f e k o = open_edit l f e k [] (λ p. nowhere)
+      (with_focus d (last (proof m b)) q ∙ (λ i. of_items d.items ++ ((o.0 i).id ∷ named (o.1 i))) ∙
+      ap (λ v. of_items d.items ++ (l.id ∷ v)) (sym (append-nil (named (f ++ (e ∷ k))))))
+      (λ p. ap (in_focus p) q ∙ (λ i. in_proof p (o.0 i) (o.1 i) nowhere))
+  open_is_edit (zone m b c t z) q l f e k o = open_edit l f e k (c.id ∷ (of_items t ++ named (end_entries z))) (λ p. in_tail p c t z)
+      (with_focus d (zone m b c t z) q ∙ ap (λ v. of_items d.items ++ v) (zone_parts m b c t z) ∙
+      (λ i. of_items d.items ++ ((o.0 i).id ∷ (named (o.1 i) ++ (c.id ∷ (of_items t ++ named (end_entries z)))))))
+      (λ p. ap (in_focus p) q ∙ (λ i. in_proof p (o.0 i) (o.1 i) (in_tail p c t z)))

@@ -107,62 +107,63 @@ ruled_grown d p a f h k = go (is_full d)
     go true = tt
     go false = (h, k)
 
-ruled_fold : (d : Document) (x : Sentence) (k : Closer) (l : Entry) (b : List Entry) (c : Entry) (t : List Item) (o : End)
-    → x.kind ≡ close k → Every (Ruled reading) d.items → RuledFocus reading (zone l b c t o) → IfAdded IsRuled (rezoned d x l b c t o)
-ruled_fold d x k l b c t o e h f =
-    (every_join (Ruled reading) d.items _ h ((f.0.0, (inner_fall true b f.0.1.0, (ap role_of e, refl))), f.1.0), f.1.1)
+module _ (d : Document) (x : Sentence) (h : Every (Ruled reading) d.items) where
+  ruled_fold : (k : Closer) (l : Entry) (b : List Entry) (c : Entry) (t : List Item) (o : End) → x.kind ≡ close k
+      → RuledFocus reading (zone l b c t o) → IfAdded IsRuled (rezoned d x l b c t o)
+  ruled_fold k l b c t o e f =
+      (every_join (Ruled reading) d.items _ h ((f.0.0, (inner_fall true b f.0.1.0, (ap role_of e, refl))), f.1.0), f.1.1)
 
-ruled_at : (d : Document) (p : ℕ) (x : Sentence) (k : Kind) (f : Focus) → x.kind ≡ k → Every (Ruled reading) d.items → RuledFocus reading f
-    → IfAdded IsRuled (attempt_at d p x k f)
-ruled_at d p x plain (last closed) e h r = ruled_grown d p (d.items ++ lone (fresh d x) ∷ []) (last closed)
-    (every_join (Ruled reading) d.items _ h (ap role_of e, tt)) tt
-ruled_at d p x plain (last (proof l b)) e h r = tt
-ruled_at d p x plain (zone l b c t o) e h r = tt
-ruled_at d p x begin (last closed) e h r = ruled_grown d p d.items (last (proof (fresh d x) [])) h (ap role_of e, tt)
-ruled_at d p x begin (last (proof l b)) e h r = tt
-ruled_at d p x begin (zone l b c t o) e h r = tt
-ruled_at d p x inner (last closed) e h r = tt
-ruled_at d p x inner (last (proof l b)) e h r = ruled_grown d p d.items (last (proof l (b ++ fresh d x ∷ []))) h (
-  r.0,
-  every_join (Has reading within) b _ r.1 (ap role_of e, tt),
-)
-ruled_at d p x inner (zone l b c t o) e h r = ruled_grown d p d.items (zone l (b ++ fresh d x ∷ []) (set (λ u. false) c) t o) h
-    ((r.0.0, (every_join (Has reading within) b _ r.0.1.0 (ap role_of e, tt), (r.0.1.1.0, refl))), r.1)
-ruled_at d p x (close k) (last closed) e h r = tt
-ruled_at d p x (close k) (last (proof l b)) e h r = ruled_grown d p (d.items ++ block l (fall (delegates x.kind) b) (fresh d x)
-    ∷ []) (last closed) (every_join (Ruled reading) d.items _ h ((r.0, (inner_fall (delegates x.kind) b r.1, (ap role_of e, refl))), tt)) tt
-ruled_at d p x (close qed) (zone l b c t o) e h r = ruled_fold d x qed l b c t o e h r
-ruled_at d p x (close admitted) (zone l b c t o) e h r = ruled_fold d x admitted l b c t o e h r
-ruled_at d p x (close defined) (zone l b c t o) e h r = tt
-ruled_at d p x (close abort) (zone l b c t o) e h r = tt
+  ruled_at : (p : ℕ) (k : Kind) (f : Focus) → x.kind ≡ k → RuledFocus reading f → IfAdded IsRuled (attempt_at d p x k f)
+  ruled_at p plain (last closed) e r = ruled_grown d p (d.items ++ lone (fresh d x) ∷ []) (last closed)
+      (every_join (Ruled reading) d.items _ h (ap role_of e, tt)) tt
+  ruled_at p plain (last (proof l b)) e r = tt
+  ruled_at p plain (zone l b c t o) e r = tt
+  ruled_at p begin (last closed) e r = ruled_grown d p d.items (last (proof (fresh d x) [])) h (ap role_of e, tt)
+  ruled_at p begin (last (proof l b)) e r = tt
+  ruled_at p begin (zone l b c t o) e r = tt
+  ruled_at p inner (last closed) e r = tt
+  ruled_at p inner (last (proof l b)) e r = ruled_grown d p d.items (last (proof l (b ++ fresh d x ∷ []))) h (
+    r.0,
+    every_join (Has reading within) b _ r.1 (ap role_of e, tt),
+  )
+  ruled_at p inner (zone l b c t o) e r = ruled_grown d p d.items (zone l (b ++ fresh d x ∷ []) (set (λ u. false) c) t o) h
+      ((r.0.0, (every_join (Has reading within) b _ r.0.1.0 (ap role_of e, tt), (r.0.1.1.0, refl))), r.1)
+  ruled_at p (close k) (last closed) e r = tt
+  ruled_at p (close k) (last (proof l b)) e r = ruled_grown d p (d.items ++ block l (fall (delegates x.kind) b) (fresh d x)
+      ∷ []) (last closed)
+      (every_join (Ruled reading) d.items _ h ((r.0, (inner_fall (delegates x.kind) b r.1, (ap role_of e, refl))), tt)) tt
+  ruled_at p (close qed) (zone l b c t o) e r = ruled_fold qed l b c t o e r
+  ruled_at p (close admitted) (zone l b c t o) e r = ruled_fold admitted l b c t o e r
+  ruled_at p (close defined) (zone l b c t o) e r = tt
+  ruled_at p (close abort) (zone l b c t o) e r = tt
 
 pub attempt_ruled : (d : Document) (p : ℕ) (x : Sentence) → IsRuled d → IfAdded IsRuled (attempt d p x)
-attempt_ruled d p x h = ruled_at d p x x.kind d.focus refl h.0 h.1
+attempt_ruled d p x h = ruled_at d x h.0 p x.kind d.focus refl h.1
 
-parts : (d : Document) (a r : List Item) → d.items ≡ a ++ r → IsRuled d → Every (Ruled reading) a × Every (Ruled reading) r
-parts d a r e h = every_parts (Ruled reading) a r (subst (Every (Ruled reading)) e h.0)
+module _ (d : Document) (h : IsRuled d) where
+  parts : (a r : List Item) → d.items ≡ a ++ r → Every (Ruled reading) a × Every (Ruled reading) r
+  parts a r e = every_parts (Ruled reading) a r (subst (Every (Ruled reading)) e h.0)
 
-reenter_ruled : (d : Document) (g : Focus) → RuledFocus reading g → (a t : List Item) (l : Entry) (b f k : List Entry) (c : Entry)
-    → d.items ≡ a ++ (block l b c ∷ t) → b ≡ f ++ k → IsRuled d → IsRuled (reenter g a l f c t d)
-reenter_ruled d (last o) r a t l b f k c e q h = go (reopens c.sentence.kind)
-  where
-    ps : Every (Ruled reading) a × Every (Ruled reading) (block l b c ∷ t)
-    ps = parts d a (block l b c ∷ t) e h
+  reenter_ruled : (a t : List Item) (l : Entry) (f k : List Entry) (c : Entry) → d.items ≡ a ++ (block l (f ++ k) c ∷ t)
+      → IsRuled (reenter d.focus a l f c t d)
+  reenter_ruled a t l f k c e = at d.focus h.1
+    where
+      ps : Every (Ruled reading) a × Every (Ruled reading) (block l (f ++ k) c ∷ t)
+      ps = parts a (block l (f ++ k) c ∷ t) e
 
-    fs : Every (Has reading within) f
-    fs = (every_parts (Has reading within) f k (subst (Every (Has reading within)) q ps.1.0.1.0)).0
+      fs : Every (Has reading within) f
+      fs = (every_parts (Has reading within) f k ps.1.0.1.0).0
 
-    go : (w : Bool) → IsRuled (if w then reopen a l f c t o d else unclose a l f c d)
-    go true = (ps.0, ((ps.1.0.0, (inner_fall true f fs, (ps.1.0.1.1.0, refl))), (ps.1.1, r)))
-    go false = (ps.0, (ps.1.0.0, inner_fall (delegates c.sentence.kind) f fs))
-reenter_ruled d (zone m y x u o) r a t l b f k c e q h = let ps = parts d a (block l b c ∷ t) e h in (
-  ps.0,
-  (
-    ps.1.0.0,
-    inner_fall (delegates c.sentence.kind) f
-        (every_parts (Has reading within) f k (subst (Every (Has reading within)) q ps.1.0.1.0)).0,
-  ),
-)
+      left : IsRuled (unclose a l f c d)
+      left = (ps.0, (ps.1.0.0, inner_fall (delegates c.sentence.kind) f fs))
+
+      go : (o : End) → RuledFocus reading (last o) → (w : Bool) → IsRuled (if w then reopen a l f c t o d else unclose a l f c d)
+      go o r true = (ps.0, ((ps.1.0.0, (inner_fall true f fs, (ps.1.0.1.1.0, refl))), (ps.1.1, r)))
+      go o r false = left
+
+      at : (g : Focus) → RuledFocus reading g → IsRuled (reenter g a l f c t d)
+      at (last o) r = go o r (reopens c.sentence.kind)
+      at (zone m y x u o) r = left
 
 closes_less : (gone : List Entry) (c : Entry) → Closes reading c → Closes reading (lessened gone c)
 closes_less [] c h = h
@@ -183,10 +184,10 @@ shorten_ruled (zone l b c t o) f k r q = (
 )
 
 pub remove_ruled_at : (d : Document) (x : Seat) → IsSeat d.items d.focus x → IsRuled d → IfChanged IsRuled (remove_at x d)
-remove_ruled_at d (among (at_lone a e t)) p h = ((parts d a (lone e ∷ t) p h).0, tt)
-remove_ruled_at d (among (at_lemma a l b c t)) p h = ((parts d a (block l b c ∷ t) p h).0, tt)
-remove_ruled_at d (among (at_inner a l f e k c t)) p h = reenter_ruled d d.focus h.1 a t l (f ++ (e ∷ k)) f (e ∷ k) c p refl h
-remove_ruled_at d (among (at_closer a l b c t)) p h = let ps = parts d a (block l b c ∷ t) p h in
+remove_ruled_at d (among (at_lone a e t)) p h = ((parts d h a (lone e ∷ t) p).0, tt)
+remove_ruled_at d (among (at_lemma a l b c t)) p h = ((parts d h a (block l b c ∷ t) p).0, tt)
+remove_ruled_at d (among (at_inner a l f e k c t)) p h = reenter_ruled d h a t l f (e ∷ k) c p
+remove_ruled_at d (among (at_closer a l b c t)) p h = let ps = parts d h a (block l b c ∷ t) p in
     (ps.0, (ps.1.0.0, inner_fall (delegates c.sentence.kind) b ps.1.0.1.0))
 remove_ruled_at d (among missing) p h = tt
 remove_ruled_at d (open_lemma l b) p h = (h.0, tt)

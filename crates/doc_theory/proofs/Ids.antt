@@ -156,27 +156,28 @@ pub record IsStable (P : Document → Type 0) : Type 0 where
   pub reporting : (d : Document) (n : ℕ) → P d → P (report n d)
 
 module _ (P : Document → Type 0) (k : IsStable P) where
-  add_step_stable : (tag : List ℕ) (p q : ℕ) (d : Document) (e : Tried) (more : Document → Ran) → P d → IfAdded P e
-      → ((d : Document) → P d → P (more d).document) → P (add_step tag p q d e more).document
-  add_step_stable tag p q d (refused r) more h g f = h
-  add_step_stable tag p q d (added e i t) more h g f = f e g
+  module _ (tag : List ℕ) where
+    add_step_stable : (p q : ℕ) (d : Document) (e : Tried) (more : Document → Ran) → P d → IfAdded P e
+        → ((d : Document) → P d → P (more d).document) → P (add_step tag p q d e more).document
+    add_step_stable p q d (refused r) more h g f = h
+    add_step_stable p q d (added e i t) more h g f = f e g
 
-  add_all_stable : (tag : List ℕ) (ps : List Piece) (d : Document) → P d → P (add_all tag ps d).document
-  add_all_stable tag [] d h = h
-  add_all_stable tag (unread p ∷ ps) d h = h
-  add_all_stable tag (piece p q x ∷ ps) d h = add_step_stable tag p q d (attempt d p x) (add_all tag ps) h (k.adding d p x h)
-      (add_all_stable tag ps)
+    add_all_stable : (ps : List Piece) (d : Document) → P d → P (add_all tag ps d).document
+    add_all_stable [] d h = h
+    add_all_stable (unread p ∷ ps) d h = h
+    add_all_stable (piece p q x ∷ ps) d h = add_step_stable p q d (attempt d p x) (add_all tag ps) h (k.adding d p x h)
+        (add_all_stable ps)
 
-  cancel_step_stable : (tag : List ℕ) (i : ℕ) (d : Document) (e : Edited) (more : Document → Removed) → P d → IfChanged P e
-      → ((d : Document) → P d → P (more d).document) → P (cancel_step tag i d e more).document
-  cancel_step_stable tag i d unknown more h g f = f d h
-  cancel_step_stable tag i d (refused_by x) more h g f = h
-  cancel_step_stable tag i d (changed e) more h g f = f e g
+    cancel_step_stable : (i : ℕ) (d : Document) (e : Edited) (more : Document → Removed) → P d → IfChanged P e
+        → ((d : Document) → P d → P (more d).document) → P (cancel_step tag i d e more).document
+    cancel_step_stable i d unknown more h g f = f d h
+    cancel_step_stable i d (refused_by x) more h g f = h
+    cancel_step_stable i d (changed e) more h g f = f e g
 
-  cancel_all_stable : (tag : List ℕ) (is : List ℕ) (d : Document) → P d → P (cancel_all tag is d).document
-  cancel_all_stable tag [] d h = h
-  cancel_all_stable tag (i ∷ is) d h = cancel_step_stable tag i d (remove d i) (cancel_all tag is) h (k.removing d i h)
-      (cancel_all_stable tag is)
+    cancel_all_stable : (is : List ℕ) (d : Document) → P d → P (cancel_all tag is d).document
+    cancel_all_stable [] d h = h
+    cancel_all_stable (i ∷ is) d h = cancel_step_stable i d (remove d i) (cancel_all tag is) h (k.removing d i h)
+        (cancel_all_stable is)
 
   if_stable : (b : Bool) (x y : Answer) → P x.document → P y.document → P (if b then x else y).document
   if_stable true x y h g = h

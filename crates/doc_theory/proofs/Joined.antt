@@ -153,90 +153,90 @@ if_grown P d p a f h = go (is_full d)
     go false = h
 
 module _ {State : Type 0} (L : Check State) (w : Work State) where
-  -- the lemma that is open at the cursor has no work
-  open_other : (d : Document) (l : Entry) (b : List Entry) → Sound d → d.focus ≡ last (proof l b) → Member w (works L d) → l.id ≡ w.lemma
-      → ⊥
-  open_other d l b s e m q = let up : (s.middle ≤ l.id) × (suc l.id ≤ d.next) = subst (λ f. RisesFocus s.middle f d.next) e s.ends in
-      let k = works_within L w L.start 0 s.middle d.items s.rises (at_end w _ (focused L w d (last (proof l b)) e m)) in
-      omega (arith, q, k.1, up.0)
-
-  zone_other : (d : Document) (l : Entry) (b : List Entry) (c : Entry) (t : List Item) (o : End) → Sound d → d.focus ≡ zone l b c t o
-      → Member w (works L d) → l.id ≡ w.lemma → ⊥
-  zone_other d l b c t o s e m q = go (member_parts w (item_works L L.start d.items) _ (focused L w d (zone l b c t o) e m))
-    where
-      up : (s.middle ≤ l.id) × ((n : ℕ) × (Rises (suc l.id) t n × RisesEnd n o d.next))
-      up = subst (λ f. RisesFocus s.middle f d.next) e s.ends
-
-      go : Member w (item_works L L.start d.items) ⊎
-          Member w (item_works L (through L (through L L.start (entries d.items)) (l ∷ (b ++ (c ∷ [])))) t)
-          → ⊥
-      go (inl k) = let j = works_within L w L.start 0 s.middle d.items s.rises k in let u = up.0 in omega (arith, q, j.1, u)
-      go (inr k) = let j = works_within L w _ (suc l.id) up.1.0 t up.1.1.0 k in omega (arith, q, j.0)
-
   grown_told : (d : Document) (p : ℕ) (a : List Item) (f : Focus) → Every (BodyTold w.lemma) a → FocusBodyTold w.lemma f
       → IfAdded (BlockTold w.lemma) (grown d p a f)
   grown_told d p a f h k = if_grown (BlockTold w.lemma) d p a f (h, k)
 
-  fold_told : (d : Document) (x : Sentence) (l : Entry) (b : List Entry) (c : Entry) (t : List Item) (o : End) → Sound d
-      → Member w (works L d) → d.focus ≡ zone l b c t o → BlockTold w.lemma d
-      → IfAdded (BlockTold w.lemma) (rezoned d x l b c t o)
-  fold_told d x l b c t o s m e h = (
-    every_join (BodyTold w.lemma) d.items _ h.0 (
-      (λ r q. absurd (zone_other d l b c t o s e m q)),
-      subst (FocusBodyTold w.lemma) e h.1,
-    ),
-    tt,
-  )
+  module _ (d : Document) (s : Sound d) (m : Member w (works L d)) where
+    -- the lemma that is open at the cursor has no work
+    open_other : (l : Entry) (b : List Entry) → d.focus ≡ last (proof l b) → l.id ≡ w.lemma → ⊥
+    open_other l b e q = let up : (s.middle ≤ l.id) × (suc l.id ≤ d.next) = subst (λ f. RisesFocus s.middle f d.next) e s.ends in
+        let k = works_within L w L.start 0 s.middle d.items s.rises (at_end w _ (focused L w d (last (proof l b)) e m)) in
+        omega (arith, q, k.1, up.0)
 
-  attempt_at_told : (d : Document) (p : ℕ) (x : Sentence) → Sound d → Member w (works L d) → BlockTold w.lemma d → (k : Kind) (f : Focus)
-      → d.focus ≡ f → IfAdded (BlockTold w.lemma) (attempt_at d p x k f)
-  attempt_at_told d p x s m h plain (last closed) e = grown_told d p _ (last closed) (every_join (BodyTold w.lemma) d.items _
-      h.0 (tt, tt)) tt
-  attempt_at_told d p x s m h plain (last (proof l b)) e = tt
-  attempt_at_told d p x s m h plain (zone l b c t o) e = tt
-  attempt_at_told d p x s m h begin (last closed) e = grown_told d p d.items (last (proof (fresh d x) [])) h.0 tt
-  attempt_at_told d p x s m h begin (last (proof l b)) e = tt
-  attempt_at_told d p x s m h begin (zone l b c t o) e = tt
-  attempt_at_told d p x s m h inner (last closed) e = tt
-  attempt_at_told d p x s m h inner (last (proof l b)) e = grown_told d p d.items (last (proof l (b ++ fresh d x ∷ []))) h.0 tt
-  attempt_at_told d p x s m h inner (zone l b c t o) e =
-      grown_told d p d.items (zone l (b ++ fresh d x ∷ []) (set (λ u. false) c) t o) h.0 (subst (FocusBodyTold w.lemma) e h.1)
-  attempt_at_told d p x s m h (close k) (last closed) e = tt
-  attempt_at_told d p x s m h (close k) (last (proof l b)) e = grown_told d p _ (last closed)
-      (every_join (BodyTold w.lemma) d.items _ h.0 ((λ r q. absurd (open_other d l b s e m q)), tt)) tt
-  attempt_at_told d p x s m h (close qed) (zone l b c t o) e = fold_told d x l b c t o s m e h
-  attempt_at_told d p x s m h (close admitted) (zone l b c t o) e = fold_told d x l b c t o s m e h
-  attempt_at_told d p x s m h (close defined) (zone l b c t o) e = tt
-  attempt_at_told d p x s m h (close abort) (zone l b c t o) e = tt
+    zone_other : (l : Entry) (b : List Entry) (c : Entry) (t : List Item) (o : End) → d.focus ≡ zone l b c t o → l.id ≡ w.lemma → ⊥
+    zone_other l b c t o e q = go (member_parts w (item_works L L.start d.items) _ (focused L w d (zone l b c t o) e m))
+      where
+        up : (s.middle ≤ l.id) × ((n : ℕ) × (Rises (suc l.id) t n × RisesEnd n o d.next))
+        up = subst (λ f. RisesFocus s.middle f d.next) e s.ends
 
-  add_step_told : (tag : List ℕ) (p q : ℕ) (d : Document) (e : Tried) (more : Document → Ran) → Member w (works L d) → BlockTold w.lemma d
-      → IfAdded (Grows L d) e → IfAdded (BlockTold w.lemma) e
-      → ((d : Document) → Sound d → Member w (works L d) → BlockTold w.lemma d → BlockTold w.lemma (more d).document) →
-      BlockTold w.lemma (add_step tag p q d e more).document
-  add_step_told tag p q d (refused r) more m h g k f = h
-  add_step_told tag p q d (added e i t) more m h g k f = f e g.sound (g.works w m) k
+        go : Member w (item_works L L.start d.items) ⊎
+            Member w (item_works L (through L (through L L.start (entries d.items)) (l ∷ (b ++ (c ∷ [])))) t)
+            → ⊥
+        go (inl k) = let j = works_within L w L.start 0 s.middle d.items s.rises k in let u = up.0 in omega (arith, q, j.1, u)
+        go (inr k) = let j = works_within L w _ (suc l.id) up.1.0 t up.1.1.0 k in omega (arith, q, j.0)
+
+    fold_told : (x : Sentence) (l : Entry) (b : List Entry) (c : Entry) (t : List Item) (o : End) → d.focus ≡ zone l b c t o
+        → BlockTold w.lemma d
+        → IfAdded (BlockTold w.lemma) (rezoned d x l b c t o)
+    fold_told x l b c t o e h = (
+      every_join (BodyTold w.lemma) d.items _ h.0 (
+        (λ r q. absurd (zone_other l b c t o e q)),
+        subst (FocusBodyTold w.lemma) e h.1,
+      ),
+      tt,
+    )
+
+    attempt_at_told : (p : ℕ) (x : Sentence) → BlockTold w.lemma d → (k : Kind) (f : Focus) → d.focus ≡ f
+        → IfAdded (BlockTold w.lemma) (attempt_at d p x k f)
+    attempt_at_told p x h plain (last closed) e = grown_told d p _ (last closed) (every_join (BodyTold w.lemma) d.items _
+        h.0 (tt, tt)) tt
+    attempt_at_told p x h plain (last (proof l b)) e = tt
+    attempt_at_told p x h plain (zone l b c t o) e = tt
+    attempt_at_told p x h begin (last closed) e = grown_told d p d.items (last (proof (fresh d x) [])) h.0 tt
+    attempt_at_told p x h begin (last (proof l b)) e = tt
+    attempt_at_told p x h begin (zone l b c t o) e = tt
+    attempt_at_told p x h inner (last closed) e = tt
+    attempt_at_told p x h inner (last (proof l b)) e = grown_told d p d.items (last (proof l (b ++ fresh d x ∷ []))) h.0 tt
+    attempt_at_told p x h inner (zone l b c t o) e =
+        grown_told d p d.items (zone l (b ++ fresh d x ∷ []) (set (λ u. false) c) t o) h.0 (subst (FocusBodyTold w.lemma) e h.1)
+    attempt_at_told p x h (close k) (last closed) e = tt
+    attempt_at_told p x h (close k) (last (proof l b)) e = grown_told d p _ (last closed)
+        (every_join (BodyTold w.lemma) d.items _ h.0 ((λ r q. absurd (open_other l b e q)), tt)) tt
+    attempt_at_told p x h (close qed) (zone l b c t o) e = fold_told x l b c t o e h
+    attempt_at_told p x h (close admitted) (zone l b c t o) e = fold_told x l b c t o e h
+    attempt_at_told p x h (close defined) (zone l b c t o) e = tt
+    attempt_at_told p x h (close abort) (zone l b c t o) e = tt
+
+  -- the rest of an Add leaves the block told
+  module _ (tag : List ℕ) (more : Document → Ran) (f : (d : Document) → Sound d → Member w (works L d) → BlockTold w.lemma d
+      → BlockTold w.lemma (more d).document) where
+    add_step_told : (p q : ℕ) (d : Document) (e : Tried) → Member w (works L d) → BlockTold w.lemma d
+        → IfAdded (Grows L d) e → IfAdded (BlockTold w.lemma) e → BlockTold w.lemma (add_step tag p q d e more).document
+    add_step_told p q d (refused r) m h g k = h
+    add_step_told p q d (added e i t) m h g k = f e g.sound (g.works w m) k
 
   add_all_told : Laws L → (tag : List ℕ) (ps : List Piece) (d : Document) → Sound d → Member w (works L d) → BlockTold w.lemma d
       → BlockTold w.lemma (add_all tag ps d).document
   add_all_told laws tag [] d s m h = h
   add_all_told laws tag (unread p ∷ ps) d s m h = h
-  add_all_told laws tag (piece p q x ∷ ps) d s m h = add_step_told tag p q d (attempt d p x) (add_all tag ps) m h
-      (attempt_grows L laws d p x s)
-      (attempt_at_told d p x s m h x.kind d.focus refl) (add_all_told laws tag ps)
+  add_all_told laws tag (piece p q x ∷ ps) d s m h = add_step_told tag (add_all tag ps) (add_all_told laws tag ps) p q d
+      (attempt d p x) m h (attempt_grows L laws d p x s) (attempt_at_told d s m p x h x.kind d.focus refl)
 
 -- ---- when sentences are removed
 
-front_told : (n : ℕ) (d : Document) (a r : List Item) → d.items ≡ a ++ r → BlockTold n d → Every (BodyTold n) a × Every (BodyTold n) r
-front_told n d a r e h = every_parts (BodyTold n) a r (subst (Every (BodyTold n)) e h.0)
+module _ (n : ℕ) (d : Document) (h : BlockTold n d) where
+  front_told : (a r : List Item) → d.items ≡ a ++ r → Every (BodyTold n) a × Every (BodyTold n) r
+  front_told a r e = every_parts (BodyTold n) a r (subst (Every (BodyTold n)) e h.0)
 
-reenter_told : (n : ℕ) (d : Document) (g : Focus) (a : List Item) (l : Entry) (b f : List Entry) (c : Entry) (t : List Item)
-    → d.items ≡ a ++ (block l b c ∷ t) → BlockTold n d → BlockTold n (reenter g a l f c t d)
-reenter_told n d (last o) a l b f c t e h = go (reopens c.sentence.kind)
-  where
-    go : (r : Bool) → BlockTold n (if r then reopen a l f c t o d else unclose a l f c d)
-    go true = ((front_told n d a (block l b c ∷ t) e h).0, (front_told n d a (block l b c ∷ t) e h).1.1)
-    go false = ((front_told n d a (block l b c ∷ t) e h).0, tt)
-reenter_told n d (zone m y x u o) a l b f c t e h = ((front_told n d a (block l b c ∷ t) e h).0, tt)
+  reenter_told : (g : Focus) (a : List Item) (l : Entry) (b f : List Entry) (c : Entry) (t : List Item)
+      → d.items ≡ a ++ (block l b c ∷ t) → BlockTold n (reenter g a l f c t d)
+  reenter_told (last o) a l b f c t e = go (reopens c.sentence.kind)
+    where
+      go : (r : Bool) → BlockTold n (if r then reopen a l f c t o d else unclose a l f c d)
+      go true = ((front_told a (block l b c ∷ t) e).0, (front_told a (block l b c ∷ t) e).1.1)
+      go false = ((front_told a (block l b c ∷ t) e).0, tt)
+  reenter_told (zone m y x u o) a l b f c t e = ((front_told a (block l b c ∷ t) e).0, tt)
 
 shorten_told : (n : ℕ) (g : Focus) (f k : List Entry) → FocusBodyTold n g → FocusBodyTold n (shorten g f k)
 shorten_told n (last closed) f k h = tt
@@ -244,27 +244,28 @@ shorten_told n (last (proof l b)) f k h = tt
 shorten_told n (zone l b c t o) f k h = h
 
 remove_at_told : (n : ℕ) (d : Document) (x : Seat) → IsSeat d.items d.focus x → BlockTold n d → IfChanged (BlockTold n) (remove_at x d)
-remove_at_told n d (among (at_lone a e t)) p h = ((front_told n d a _ p h).0, tt)
-remove_at_told n d (among (at_lemma a l b c t)) p h = ((front_told n d a _ p h).0, tt)
-remove_at_told n d (among (at_inner a l f e k c t)) p h = reenter_told n d d.focus a l _ f c t p h
-remove_at_told n d (among (at_closer a l b c t)) p h = ((front_told n d a _ p h).0, tt)
+remove_at_told n d (among (at_lone a e t)) p h = ((front_told n d h a _ p).0, tt)
+remove_at_told n d (among (at_lemma a l b c t)) p h = ((front_told n d h a _ p).0, tt)
+remove_at_told n d (among (at_inner a l f e k c t)) p h = reenter_told n d h d.focus a l _ f c t p
+remove_at_told n d (among (at_closer a l b c t)) p h = ((front_told n d h a _ p).0, tt)
 remove_at_told n d (among missing) p h = tt
 remove_at_told n d (open_lemma l b) p h = (h.0, tt)
 remove_at_told n d (open_inner l f e k) p h = (h.0, shorten_told n d.focus f (e ∷ k) h.1)
 remove_at_told n d (behind c) p h = tt
 remove_at_told n d nowhere p h = tt
 
-cancel_step_told : (n : ℕ) (tag : List ℕ) (i : ℕ) (d : Document) (e : Edited) (more : Document → Removed) → BlockTold n d
-    → IfChanged (BlockTold n) e
-    → ((d : Document) → BlockTold n d → BlockTold n (more d).document) → BlockTold n (cancel_step tag i d e more).document
-cancel_step_told n tag i d unknown more h k f = f d h
-cancel_step_told n tag i d (refused_by x) more h k f = h
-cancel_step_told n tag i d (changed e) more h k f = f e k
+module _ (n : ℕ) (tag : List ℕ) where
+  cancel_step_told : (i : ℕ) (d : Document) (e : Edited) (more : Document → Removed) → BlockTold n d
+      → IfChanged (BlockTold n) e
+      → ((d : Document) → BlockTold n d → BlockTold n (more d).document) → BlockTold n (cancel_step tag i d e more).document
+  cancel_step_told i d unknown more h k f = f d h
+  cancel_step_told i d (refused_by x) more h k f = h
+  cancel_step_told i d (changed e) more h k f = f e k
 
-cancel_all_told : (n : ℕ) (tag : List ℕ) (is : List ℕ) (d : Document) → BlockTold n d → BlockTold n (cancel_all tag is d).document
-cancel_all_told n tag [] d h = h
-cancel_all_told n tag (i ∷ is) d h = cancel_step_told n tag i d (remove d i) (cancel_all tag is) h
-    (remove_at_told n d (seat i d) (seat_is i d) h) (cancel_all_told n tag is)
+  cancel_all_told : (is : List ℕ) (d : Document) → BlockTold n d → BlockTold n (cancel_all tag is d).document
+  cancel_all_told [] d h = h
+  cancel_all_told (i ∷ is) d h = cancel_step_told i d (remove d i) (cancel_all tag is) h
+      (remove_at_told n d (seat i d) (seat_is i d) h) (cancel_all_told is)
 
 -- ---- when flags change
 
@@ -333,27 +334,28 @@ if_told : (n : ℕ) (b : Bool) (x y : Answer) → BlockTold n x.document → Blo
 if_told n true x y h k = h
 if_told n false x y h k = k
 
-perform_told : {State : Type 0} (L : Check State) → Laws L → (w : Work State) (d : Document) (tag : List ℕ) (c : Command) (cut : Cut)
-    → Sound d → Member w (works L d) → BlockTold w.lemma d → BlockTold w.lemma (perform L d tag c cut).document
-perform_told L laws w d tag (cmd.Add opts text) cut s m h = if_told w.lemma (is_on_top opts.ontop d)
-    (answered (add_all tag (cut_to cut (limited opts.lim (L.pieces text))) d).document
-    ((add_all tag (cut_to cut (limited opts.lim (L.pieces text))) d).lines ++ told_of cut tag
-    (add_all tag (cut_to cut (limited opts.lim (L.pieces text))) d).stop))
-    (answered d (told_of cut tag (Some (exn.NotTip (cursor d)))))
-    (add_all_told L w laws tag (cut_to cut (limited opts.lim (L.pieces text))) d s m h) h
-perform_told L laws w d tag (cmd.Cancel is) cut s m h = cancel_all_told w.lemma tag (cut_to cut is) d h
-perform_told L laws w d tag (cmd.Exec i) cut s m h = if_told w.lemma (is_state i d)
-    (answered (told_to (cut_to cut (due L d i)) d) (feedbacks 0 (cut_to cut (due L d i)) ++ told_of cut tag
-    (first_wrong (path (before i (judged L d))))))
-    (answered d (told_of cut tag (Some (exn.NoSuchState i)))) (told_told w.lemma (cut_to cut (due L d i)) d h) h
-perform_told L laws w d tag (cmd.Query opts q) whole s m h = if_told w.lemma (is_state (sid_of opts.sid d) d)
-    (answered d (asked_at L tag q L.start None (before (sid_of opts.sid d) (judged L d)) ∷ []))
-    (answered d (CoqExn tag (exn.NoSuchState (sid_of opts.sid d)) ∷ [])) h h
-perform_told L laws w d tag (cmd.Query opts q) (after n) s m h = h
-perform_told L laws w d tag cmd.Join cut s m h = told_told w.lemma (cut_to cut (all_due L d)) d h
-perform_told L laws w d tag cmd.Quit cut s m h = h
+module _ {State : Type 0} (L : Check State) (laws : Laws L) (w : Work State) (d : Document) where
+  perform_told : (tag : List ℕ) (c : Command) (cut : Cut) → Sound d → Member w (works L d) → BlockTold w.lemma d
+      → BlockTold w.lemma (perform L d tag c cut).document
+  perform_told tag (cmd.Add opts text) cut s m h = if_told w.lemma (is_on_top opts.ontop d)
+      (answered (add_all tag (cut_to cut (limited opts.lim (L.pieces text))) d).document
+      ((add_all tag (cut_to cut (limited opts.lim (L.pieces text))) d).lines ++ told_of cut tag
+      (add_all tag (cut_to cut (limited opts.lim (L.pieces text))) d).stop))
+      (answered d (told_of cut tag (Some (exn.NotTip (cursor d)))))
+      (add_all_told L w laws tag (cut_to cut (limited opts.lim (L.pieces text))) d s m h) h
+  perform_told tag (cmd.Cancel is) cut s m h = cancel_all_told w.lemma tag (cut_to cut is) d h
+  perform_told tag (cmd.Exec i) cut s m h = if_told w.lemma (is_state i d)
+      (answered (told_to (cut_to cut (due L d i)) d) (feedbacks 0 (cut_to cut (due L d i)) ++ told_of cut tag
+      (first_wrong (path (before i (judged L d))))))
+      (answered d (told_of cut tag (Some (exn.NoSuchState i)))) (told_told w.lemma (cut_to cut (due L d i)) d h) h
+  perform_told tag (cmd.Query opts q) whole s m h = if_told w.lemma (is_state (sid_of opts.sid d) d)
+      (answered d (asked_at L tag q L.start None (before (sid_of opts.sid d) (judged L d)) ∷ []))
+      (answered d (CoqExn tag (exn.NoSuchState (sid_of opts.sid d)) ∷ [])) h h
+  perform_told tag (cmd.Query opts q) (after n) s m h = h
+  perform_told tag cmd.Join cut s m h = told_told w.lemma (cut_to cut (all_due L d)) d h
+  perform_told tag cmd.Quit cut s m h = h
 
-pub answer_told : {State : Type 0} (L : Check State) → Laws L → (w : Work State) (d : Document) (q : Request) (cut : Cut) → Sound d
-    → Member w (works L d) → BlockTold w.lemma d → BlockTold w.lemma (answer L d q cut).document
-answer_told L laws w d (Do t) cut s m h = perform_told L laws w d t.tag t.command cut s m h
-answer_told L laws w d (Bad b) cut s m h = h
+  pub answer_told : (q : Request) (cut : Cut) → Sound d → Member w (works L d) → BlockTold w.lemma d
+      → BlockTold w.lemma (answer L d q cut).document
+  answer_told (Do t) cut s m h = perform_told t.tag t.command cut s m h
+  answer_told (Bad b) cut s m h = h

@@ -176,22 +176,23 @@ if_spot : (c : Bool) (x y u v : Spot) → x ≡ forget_spot u → y ≡ forget_s
 if_spot true x y u v h k = h
 if_spot false x y u v h k = k
 
-inside_forget : (i : ℕ) (l : Entry) (b : List Entry) (c : Entry) (t : List Item) (s : Split) (x y : Spot) → x ≡ forget_spot y
-    → inside i l (fall (delegates c.sentence.kind) b) (set (falls (delegates c.sentence.kind)) c) (map forget_item t)
-    (fall_split (delegates c.sentence.kind) s) x
-    ≡ forget_spot (inside i l b c t s y)
-inside_forget i l b c t (found f e k) x y h = refl
-inside_forget i l b c t unfound x y h = if_spot (nat_eq i c.id) _ x (at_closer [] l b c t) y refl h
+module _ (i : ℕ) where
+  inside_forget : (l : Entry) (b : List Entry) (c : Entry) (t : List Item) (s : Split) (x y : Spot) → x ≡ forget_spot y
+      → inside i l (fall (delegates c.sentence.kind) b) (set (falls (delegates c.sentence.kind)) c) (map forget_item t)
+      (fall_split (delegates c.sentence.kind) s) x
+      ≡ forget_spot (inside i l b c t s y)
+  inside_forget l b c t (found f e k) x y h = refl
+  inside_forget l b c t unfound x y h = if_spot (nat_eq i c.id) _ x (at_closer [] l b c t) y refl h
 
-locate_forget : (i : ℕ) (xs : List Item) → locate i (map forget_item xs) ≡ forget_spot (locate i xs)
-locate_forget i [] = refl
-locate_forget i (lone e ∷ t) = if_spot (nat_eq i e.id) _ _ (at_lone [] e t) (under (lone e) (locate i t)) refl
-    (ap (under (lone e)) (locate_forget i t) ∙ under_forget (lone e) (locate i t))
-locate_forget i (block l b c ∷ t) = if_spot (nat_eq i l.id) _ _ (at_lemma [] l b c t) _ refl
-    (ap (λ s. inside i l (fall (delegates c.sentence.kind) b) (set (falls (delegates c.sentence.kind)) c) (map forget_item t) s
-    (under (forget_item (block l b c)) (locate i (map forget_item t)))) (split_fall (delegates c.sentence.kind) i b)
-    ∙ inside_forget i l b c t (split i b) _ (under (block l b c) (locate i t)) (ap (under (forget_item (block l b c)))
-    (locate_forget i t) ∙ under_forget (block l b c) (locate i t)))
+  locate_forget : (xs : List Item) → locate i (map forget_item xs) ≡ forget_spot (locate i xs)
+  locate_forget [] = refl
+  locate_forget (lone e ∷ t) = if_spot (nat_eq i e.id) _ _ (at_lone [] e t) (under (lone e) (locate i t)) refl
+      (ap (under (lone e)) (locate_forget t) ∙ under_forget (lone e) (locate i t))
+  locate_forget (block l b c ∷ t) = if_spot (nat_eq i l.id) _ _ (at_lemma [] l b c t) _ refl
+      (ap (λ s. inside i l (fall (delegates c.sentence.kind) b) (set (falls (delegates c.sentence.kind)) c) (map forget_item t) s
+      (under (forget_item (block l b c)) (locate i (map forget_item t)))) (split_fall (delegates c.sentence.kind) i b)
+      ∙ inside_forget l b c t (split i b) _ (under (block l b c) (locate i t)) (ap (under (forget_item (block l b c)))
+      (locate_forget t) ∙ under_forget (block l b c) (locate i t)))
 
 abbrev pub forget_seat : Seat → Seat
 forget_seat (among s) = among (forget_spot s)

@@ -185,47 +185,46 @@ unclose_loses d a t l f k c e = loses_by d (last (proof l (fall (delegates c.sen
     let z = fall_size (delegates c.sentence.kind) f in
     omega (arith, h, x, y, m, s, z))
 
-reopen_loses : (d : Document) (a t : List Item) (l : Entry) (f : List Entry) (e : Entry) (k : List Entry) (c : Entry) (o : End)
-    → d.items ≡ a ++ (block l (f ++ (e ∷ k)) c ∷ t) → d.focus ≡ last o → Loses d (reopen a l f c t o d)
-reopen_loses d a t l f e k c o q g = loses_by d (zone l (fall true f) (set (λ u. false) c) t o) a (block l (f ++ (e ∷ k)) c ∷ t)
-    q (l.id ∷ []) parts
-    (let s = block_size l f (e ∷ k) c t in
-    let z = zone_size l (fall true f) (set (λ u. false) c) t o in
-    let y = fall_size true f in
-    let w : length (focus_entries d.focus) ≡ length (end_entries o) = ap (λ u. length (focus_entries u)) g in
-    omega (arith, s, z, y, w))
-  where
-    body : (r : Bool) (n : ℕ) → has n (body_if r l.id (item_bodies t)) ≡ true
-        → (has n (item_bodies t) ≡ true) ⊎ (has n (l.id ∷ []) ≡ true)
-    body false n h = inl h
-    body true n h = at (either_true (nat_eq n l.id) (has n (item_bodies t)) h)
-      where
-        at : (nat_eq n l.id ≡ true) ⊎ (has n (item_bodies t) ≡ true) → (has n (item_bodies t) ≡ true) ⊎ (has n (l.id ∷ []) ≡ true)
-        at (inl x) = inr (left_true (nat_eq n l.id) false x)
-        at (inr x) = inl x
+-- a block of the document, inside of which a sentence goes
+module _ (d : Document) (a t : List Item) (l : Entry) (f : List Entry) (e : Entry) (k : List Entry) (c : Entry)
+    (q : d.items ≡ a ++ (block l (f ++ (e ∷ k)) c ∷ t)) where
+  reopen_loses : (o : End) → d.focus ≡ last o → Loses d (reopen a l f c t o d)
+  reopen_loses o g = loses_by d (zone l (fall true f) (set (λ u. false) c) t o) a (block l (f ++ (e ∷ k)) c ∷ t)
+      q (l.id ∷ []) parts
+      (let s = block_size l f (e ∷ k) c t in
+      let z = zone_size l (fall true f) (set (λ u. false) c) t o in
+      let y = fall_size true f in
+      let w : length (focus_entries d.focus) ≡ length (end_entries o) = ap (λ u. length (focus_entries u)) g in
+      omega (arith, s, z, y, w))
+    where
+      body : (r : Bool) (n : ℕ) → has n (body_if r l.id (item_bodies t)) ≡ true
+          → (has n (item_bodies t) ≡ true) ⊎ (has n (l.id ∷ []) ≡ true)
+      body false n h = inl h
+      body true n h = at (either_true (nat_eq n l.id) (has n (item_bodies t)) h)
+        where
+          at : (nat_eq n l.id ≡ true) ⊎ (has n (item_bodies t) ≡ true) → (has n (item_bodies t) ≡ true) ⊎ (has n (l.id ∷ []) ≡ true)
+          at (inl x) = inr (left_true (nat_eq n l.id) false x)
+          at (inr x) = inl x
 
-    none : (n : ℕ) → has n (focus_bodies d.focus) ≡ true → has n (item_bodies t) ≡ true
-    none n h = no (sym (ap (λ u. has n (focus_bodies u)) g) ∙ h)
+      none : (n : ℕ) → has n (focus_bodies d.focus) ≡ true → has n (item_bodies t) ≡ true
+      none n h = no (sym (ap (λ u. has n (focus_bodies u)) g) ∙ h)
 
-    parts : (n : ℕ) → has n (item_bodies (block l (f ++ (e ∷ k)) c ∷ t) ++ focus_bodies d.focus) ≡ true
-        → (has n (item_bodies t) ≡ true) ⊎ (has n (l.id ∷ []) ≡ true)
-    parts n h = go (has_parts n (body_if (delegates c.sentence.kind) l.id (item_bodies t)) (focus_bodies d.focus) h)
-      where
-        go : (has n (body_if (delegates c.sentence.kind) l.id (item_bodies t)) ≡ true) ⊎ (has n (focus_bodies d.focus) ≡ true)
-            → (has n (item_bodies t) ≡ true) ⊎ (has n (l.id ∷ []) ≡ true)
-        go (inl x) = body (delegates c.sentence.kind) n x
-        go (inr x) = inl (none n x)
+      parts : (n : ℕ) → has n (item_bodies (block l (f ++ (e ∷ k)) c ∷ t) ++ focus_bodies d.focus) ≡ true
+          → (has n (item_bodies t) ≡ true) ⊎ (has n (l.id ∷ []) ≡ true)
+      parts n h = go (has_parts n (body_if (delegates c.sentence.kind) l.id (item_bodies t)) (focus_bodies d.focus) h)
+        where
+          go : (has n (body_if (delegates c.sentence.kind) l.id (item_bodies t)) ≡ true) ⊎ (has n (focus_bodies d.focus) ≡ true)
+              → (has n (item_bodies t) ≡ true) ⊎ (has n (l.id ∷ []) ≡ true)
+          go (inl x) = body (delegates c.sentence.kind) n x
+          go (inr x) = inl (none n x)
 
-reenter_loses : (d : Document) (g : Focus) → d.focus ≡ g
-    → (a t : List Item) (l : Entry) (f : List Entry) (e : Entry) (k : List Entry) (c : Entry)
-    → d.items ≡ a ++ (block l (f ++ (e ∷ k)) c ∷ t)
-    → Loses d (reenter g a l f c t d)
-reenter_loses d (last o) g a t l f e k c q = go (reopens c.sentence.kind)
-  where
-    go : (r : Bool) → Loses d (if r then reopen a l f c t o d else unclose a l f c d)
-    go true = reopen_loses d a t l f e k c o q g
-    go false = unclose_loses d a t l f (e ∷ k) c q
-reenter_loses d (zone m y x u o) g a t l f e k c q = unclose_loses d a t l f (e ∷ k) c q
+  reenter_loses : (g : Focus) → d.focus ≡ g → Loses d (reenter g a l f c t d)
+  reenter_loses (last o) g = go (reopens c.sentence.kind)
+    where
+      go : (r : Bool) → Loses d (if r then reopen a l f c t o d else unclose a l f c d)
+      go true = reopen_loses o g
+      go false = unclose_loses d a t l f (e ∷ k) c q
+  reenter_loses (zone m y x u o) g = unclose_loses d a t l f (e ∷ k) c q
 
 shorten_loses : (d : Document) (g : Focus) → d.focus ≡ g → (f k : List Entry) → IsFront g f k
     → Loses d (refocus d.items (shorten g f k) d)
@@ -247,7 +246,7 @@ shorten_loses d (zone l b c t o) g f k q = loses_by d (zone l f (lessened k c) t
 seat_loses : (d : Document) (x : Seat) → IsSeat d.items d.focus x → IfChanged (Loses d) (remove_at x d)
 seat_loses d (among (at_lone a e t)) h = only_loses d a (lone e ∷ t) h
 seat_loses d (among (at_lemma a l b c t)) h = only_loses d a (block l b c ∷ t) h
-seat_loses d (among (at_inner a l f e k c t)) h = reenter_loses d d.focus refl a t l f e k c h
+seat_loses d (among (at_inner a l f e k c t)) h = reenter_loses d a t l f e k c h d.focus refl
 seat_loses d (among (at_closer a l b c t)) h = unclose_loses d a t l b [] c (h ∙ ap (λ z. a ++ (block l z c ∷ t)) (sym (append-nil b)))
 seat_loses d (among missing) h = tt
 seat_loses d (open_lemma l b) h = only_loses d d.items [] (sym (append-nil d.items))

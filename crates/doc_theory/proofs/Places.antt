@@ -164,49 +164,47 @@ only_cut d a r e = record {
   is = named_join (entries a) [];
 }
 
--- the line with a block that is in two parts
-pub with_block : (d : Document) (a t : List Item) (l : Entry) (b f k : List Entry) (c : Entry) → d.items ≡ a ++ (block l b c ∷ t)
-    → b ≡ f ++ k
-    → line d ≡ (of_items a ++ ((l.id ∷ ((named f ++ named k) ++ (c.id ∷ []))) ++ of_items t)) ++ named (focus_entries d.focus)
-with_block d a t l b f k c e q = line_parts d.items d.focus ∙ ap (λ z. z ++ named (focus_entries d.focus))
-    (ap of_items e ∙ items_join a (block l b c ∷ t) ∙ ap (λ z. of_items a ++ z) (block_parts l b c t ∙
-    ap (λ z. (l.id ∷ (z ++ (c.id ∷ []))) ++ of_items t) (ap named q ∙ named_join f k)))
+-- a block of the document, of which a front is to stay
+module _ (d : Document) (a t : List Item) (l : Entry) (b f k : List Entry) (c : Entry) (e : d.items ≡ a ++ (block l b c ∷ t))
+    (q : b ≡ f ++ k) where
+  -- the line with a block that is in two parts
+  pub with_block : line d ≡ (of_items a ++ ((l.id ∷ ((named f ++ named k) ++ (c.id ∷ []))) ++ of_items t)) ++ named (focus_entries d.focus)
+  with_block = line_parts d.items d.focus ∙ ap (λ z. z ++ named (focus_entries d.focus))
+      (ap of_items e ∙ items_join a (block l b c ∷ t) ∙ ap (λ z. of_items a ++ z) (block_parts l b c t ∙
+      ap (λ z. (l.id ∷ (z ++ (c.id ∷ []))) ++ of_items t) (ap named q ∙ named_join f k)))
 
-unclose_cut : (d : Document) (a t : List Item) (l : Entry) (b f k : List Entry) (c : Entry) → d.items ≡ a ++ (block l b c ∷ t)
-    → b ≡ f ++ k → IsCut (line d) (line (unclose a l f c d))
-unclose_cut d a t l b f k c e q = record {
-  front = of_items a ++ (l.id ∷ named f);
-  gone = named k ++ (c.id ∷ (of_items t ++ named (focus_entries d.focus)));
-  back = [];
-  was = with_block d a t l b f k c e q
-      ∙ cut_block (of_items a) (named f) (named k) (of_items t) (named (focus_entries d.focus)) l.id c.id;
-  is = named_join (entries a) (l ∷ fall (delegates c.sentence.kind) f)
-      ∙ ap (λ z. of_items a ++ (l.id ∷ z)) (named_fall (delegates c.sentence.kind) f) ∙ sym (append-nil (of_items a ++ (l.id ∷ named f)));
-}
+  unclose_cut : IsCut (line d) (line (unclose a l f c d))
+  unclose_cut = record {
+    front = of_items a ++ (l.id ∷ named f);
+    gone = named k ++ (c.id ∷ (of_items t ++ named (focus_entries d.focus)));
+    back = [];
+    was = with_block
+        ∙ cut_block (of_items a) (named f) (named k) (of_items t) (named (focus_entries d.focus)) l.id c.id;
+    is = named_join (entries a) (l ∷ fall (delegates c.sentence.kind) f)
+        ∙ ap (λ z. of_items a ++ (l.id ∷ z)) (named_fall (delegates c.sentence.kind) f) ∙ sym (append-nil (of_items a ++ (l.id ∷ named f)));
+  }
 
-reopen_cut : (d : Document) (a t : List Item) (l : Entry) (b f k : List Entry) (c : Entry) (o : End) → d.items ≡ a ++ (block l b c ∷ t)
-    → b ≡ f ++ k → d.focus ≡ last o → IsCut (line d) (line (reopen a l f c t o d))
-reopen_cut d a t l b f k c o e q g = record {
-  front = of_items a ++ (l.id ∷ named f);
-  gone = named k;
-  back = c.id ∷ (of_items t ++ named (end_entries o));
-  was = with_block d a t l b f k c e q
-      ∙ ap (λ z. (of_items a ++ ((l.id ∷ ((named f ++ named k) ++ (c.id ∷ []))) ++ of_items t)) ++ named (focus_entries z)) g
-      ∙ cut_inside (of_items a) (named f) (named k) (of_items t) (named (end_entries o)) l.id c.id;
-  is = line_parts a (zone l (fall true f) (set (λ u. false) c) t o)
-      ∙ ap (λ z. of_items a ++ z) (zone_parts l (fall true f) (set (λ u. false) c) t o ∙
-      ap (λ z. l.id ∷ (z ++ (c.id ∷ (of_items t ++ named (end_entries o))))) (named_fall true f))
-      ∙ put_back (of_items a) (named f) (c.id ∷ (of_items t ++ named (end_entries o))) l.id;
-}
+  reopen_cut : (o : End) → d.focus ≡ last o → IsCut (line d) (line (reopen a l f c t o d))
+  reopen_cut o g = record {
+    front = of_items a ++ (l.id ∷ named f);
+    gone = named k;
+    back = c.id ∷ (of_items t ++ named (end_entries o));
+    was = with_block
+        ∙ ap (λ z. (of_items a ++ ((l.id ∷ ((named f ++ named k) ++ (c.id ∷ []))) ++ of_items t)) ++ named (focus_entries z)) g
+        ∙ cut_inside (of_items a) (named f) (named k) (of_items t) (named (end_entries o)) l.id c.id;
+    is = line_parts a (zone l (fall true f) (set (λ u. false) c) t o)
+        ∙ ap (λ z. of_items a ++ z) (zone_parts l (fall true f) (set (λ u. false) c) t o ∙
+        ap (λ z. l.id ∷ (z ++ (c.id ∷ (of_items t ++ named (end_entries o))))) (named_fall true f))
+        ∙ put_back (of_items a) (named f) (c.id ∷ (of_items t ++ named (end_entries o))) l.id;
+  }
 
-reenter_cut : (d : Document) (g : Focus) → d.focus ≡ g → (a t : List Item) (l : Entry) (b f k : List Entry) (c : Entry)
-    → d.items ≡ a ++ (block l b c ∷ t) → b ≡ f ++ k → IsCut (line d) (line (reenter g a l f c t d))
-reenter_cut d (last o) g a t l b f k c e q = go (reopens c.sentence.kind)
-  where
-    go : (r : Bool) → IsCut (line d) (line (if r then reopen a l f c t o d else unclose a l f c d))
-    go true = reopen_cut d a t l b f k c o e q g
-    go false = unclose_cut d a t l b f k c e q
-reenter_cut d (zone m y x u o) g a t l b f k c e q = unclose_cut d a t l b f k c e q
+  reenter_cut : (g : Focus) → d.focus ≡ g → IsCut (line d) (line (reenter g a l f c t d))
+  reenter_cut (last o) g = go (reopens c.sentence.kind)
+    where
+      go : (r : Bool) → IsCut (line d) (line (if r then reopen a l f c t o d else unclose a l f c d))
+      go true = reopen_cut o g
+      go false = unclose_cut
+  reenter_cut (zone m y x u o) g = unclose_cut
 
 less_id : (k : List Entry) (c : Entry) → (lessened k c).id ≡ c.id
 less_id [] c = refl
@@ -247,7 +245,7 @@ shorten_cut d (zone l b c t o) g f k q = record {
 remove_at_cut : (d : Document) (x : Seat) → IsSeat d.items d.focus x → IfChanged (λ e. IsCut (line d) (line e)) (remove_at x d)
 remove_at_cut d (among (at_lone a e t)) h = only_cut d a (lone e ∷ t) h
 remove_at_cut d (among (at_lemma a l b c t)) h = only_cut d a (block l b c ∷ t) h
-remove_at_cut d (among (at_inner a l f e k c t)) h = reenter_cut d d.focus refl a t l (f ++ (e ∷ k)) f (e ∷ k) c h refl
+remove_at_cut d (among (at_inner a l f e k c t)) h = reenter_cut d a t l (f ++ (e ∷ k)) f (e ∷ k) c h refl d.focus refl
 remove_at_cut d (among (at_closer a l b c t)) h = unclose_cut d a t l b b [] c h (sym (append-nil b))
 remove_at_cut d (among missing) h = tt
 remove_at_cut d (open_lemma l b) h = only_cut d d.items [] (sym (append-nil d.items))

@@ -137,16 +137,17 @@ if_is : (xs : List Item) (c : Bool) (x y : Spot) → IsSpot xs x → IsSpot xs y
 if_is xs true x y h k = h
 if_is xs false x y h k = k
 
-inside_is : (i : ℕ) (l : Entry) (b : List Entry) (c : Entry) (t : List Item) (s : Split) (other : Spot) → IsSplit b s
-    → IsSpot (block l b c ∷ t) other → IsSpot (block l b c ∷ t) (inside i l b c t s other)
-inside_is i l b c t (found f e k) other h o = ap (λ z. block l z c ∷ t) h
-inside_is i l b c t unfound other h o = if_is (block l b c ∷ t) (nat_eq i c.id) (at_closer [] l b c t) other refl o
+module _ (i : ℕ) where
+  inside_is : (l : Entry) (b : List Entry) (c : Entry) (t : List Item) (s : Split) (other : Spot) → IsSplit b s
+      → IsSpot (block l b c ∷ t) other → IsSpot (block l b c ∷ t) (inside i l b c t s other)
+  inside_is l b c t (found f e k) other h o = ap (λ z. block l z c ∷ t) h
+  inside_is l b c t unfound other h o = if_is (block l b c ∷ t) (nat_eq i c.id) (at_closer [] l b c t) other refl o
 
-pub locate_is : (i : ℕ) (xs : List Item) → IsSpot xs (locate i xs)
-locate_is i [] = tt
-locate_is i (lone e ∷ t) = if_is (lone e ∷ t) (nat_eq i e.id) (at_lone [] e t) _ refl (under_is (lone e) t (locate i t) (locate_is i t))
-locate_is i (block l b c ∷ t) = if_is (block l b c ∷ t) (nat_eq i l.id) (at_lemma [] l b c t) _ refl
-    (inside_is i l b c t (split i b) _ (split_is i b) (under_is (block l b c) t (locate i t) (locate_is i t)))
+  pub locate_is : (xs : List Item) → IsSpot xs (locate i xs)
+  locate_is [] = tt
+  locate_is (lone e ∷ t) = if_is (lone e ∷ t) (nat_eq i e.id) (at_lone [] e t) _ refl (under_is (lone e) t (locate i t) (locate_is t))
+  locate_is (block l b c ∷ t) = if_is (block l b c ∷ t) (nat_eq i l.id) (at_lemma [] l b c t) _ refl
+      (inside_is l b c t (split i b) _ (split_is i b) (under_is (block l b c) t (locate i t) (locate_is t)))
 
 -- a front of the block that is open at the cursor
 abbrev pub IsFront : Focus → List Entry → List Entry → Type 0
@@ -248,99 +249,96 @@ module _ {State : Type 0} (L : Check State) (laws : Laws L) (d : Document) (s : 
         sound = record { items = (forming a r e).0; focus = tt; middle = p.0; rises = p.1.0; ends = omega (arith, mid, bound) };
       }
 
-  unclose_keeps : (a t : List Item) (l : Entry) (b f k : List Entry) (c : Entry) → d.items ≡ a ++ (block l b c ∷ t) → b ≡ f ++ k
-      → Keeps L d (unclose a l f c d)
-  unclose_keeps a t l b f k c e q = let p = rising a (block l b c ∷ t) e in let mid = rises_le (suc l.id) s.middle t p.1.1.1 in
-      record {
-        works = front_works a (block l b c ∷ t) e;
-        bodies = front_bodies a (block l b c ∷ t) e;
-        sound = record {
-          items = (forming a (block l b c ∷ t) e).0;
-          focus = inner_fall (delegates c.sentence.kind) f
-              (every_parts IsInner f k (subst (Every IsInner) q (forming a (block l b c ∷ t) e).1.0)).0;
-          middle = p.0;
-          rises = p.1.0;
-          ends = (p.1.1.0, omega (arith, mid, bound));
-        };
-      }
-
-  reopen_works : (a t : List Item) (l : Entry) (b f k : List Entry) (c : Entry) (o : End) → d.items ≡ a ++ (block l b c ∷ t) → b ≡ f ++ k
-      → reopens c.sentence.kind ≡ true
-      → d.focus ≡ last o → (w : Work State) → Member w (works L d) → has w.lemma (item_bodies a ++ item_bodies t) ≡ true
-      → Member w (item_works L L.start a ++ focus_works L (through L L.start (entries a)) (zone l (fall true f) (set (λ u. false) c) t o))
-  reopen_works a t l b f k c o e q rc g w m h =
-      go (member_parts w (item_works L L.start a) _ (subst (λ z. Member w z) (ap (item_works L L.start) e ∙
-      works_join L L.start a (block l b c ∷ t)) (at_end w _ (focused L w d (last o) g m))))
-    where
-      inner : Every IsInner b
-      inner = (forming a (block l b c ∷ t) e).1.0
-
-      front : Every IsInner f
-      front = (every_parts IsInner f k (subst (Every IsInner) q inner)).0
-
-      lemma_of : (r : Bool) → Member w (work_if L r (through L L.start (entries a)) l b c) → w.lemma ≡ l.id
-      lemma_of true (inl z) = ap (λ y. y.lemma) z
-      lemma_of true (inr z) = absurd z
-      lemma_of false z = absurd z
-
-      apart : w.lemma ≡ l.id → (has w.lemma (item_bodies a) ≡ true) ⊎ (has w.lemma (item_bodies t) ≡ true) → ⊥
-      apart z (inl y) = let low = bodies_within w.lemma 0 _ a (rising a (block l b c ∷ t) e).1.0 y in let up =
-          (rising a (block l b c ∷ t) e).1.1.0 in omega (arith, z, low.1, up)
-      apart z (inr y) = let high = bodies_within w.lemma (suc l.id) s.middle t (rising a (block l b c ∷ t) e).1.1.1 y in
-          omega (arith, z, high.0)
-
-      tail : Member w (work_if L (delegates c.sentence.kind) (through L L.start (entries a)) l b c) ⊎
-          Member w (item_works L (through L (through L L.start (entries a)) (l ∷ (b ++ (c ∷ [])))) t)
-          → Member w (item_works L (through L (through L L.start (entries a)) (l ∷ (fall true f ++ (set (λ u. false) c ∷ [])))) t)
-      tail (inl z) = absurd (apart (lemma_of (delegates c.sentence.kind) z) (has_parts w.lemma (item_bodies a) (item_bodies t) h))
-      tail (inr z) = subst (λ u. Member w (item_works L u t)) (behind_same L laws (through L L.start (entries a)) l b
-          (fall true f) c (set (λ u. false) c) inner (inner_fall true f front) rc rc) z
-
-      go : Member w (item_works L L.start a) ⊎ Member w (item_works L (through L L.start (entries a)) (block l b c ∷ t))
-          → Member w (item_works L L.start a ++ item_works L (through L (through L L.start (entries a))
-          (l ∷ (fall true f ++ (set (λ u. false) c ∷ [])))) t)
-      go (inl z) = member_left w (item_works L L.start a) _ z
-      go (inr z) = member_right w (item_works L L.start a) _
-          (tail (member_parts w (work_if L (delegates c.sentence.kind) (through L L.start (entries a)) l b c) _ z))
-
   more_body : (n m : ℕ) (r : Bool) (ns : List ℕ) → has n ns ≡ true → has n (body_if r m ns) ≡ true
   more_body n m true ns h = right_true (nat_eq n m) (has n ns) h
   more_body n m false ns h = h
 
-  reopen_keeps : (a t : List Item) (l : Entry) (b f k : List Entry) (c : Entry) (o : End) → d.items ≡ a ++ (block l b c ∷ t) → b ≡ f ++ k
-      → reopens c.sentence.kind ≡ true
-      → d.focus ≡ last o → Keeps L d (reopen a l f c t o d)
-  reopen_keeps a t l b f k c o e q rc g = let p = rising a (block l b c ∷ t) e in let fs = forming a (block l b c ∷ t) e in
-      record {
-        works = reopen_works a t l b f k c o e q rc g;
-        bodies = λ n h. has_left n (item_bodies d.items) _
-            (subst (λ z. has n z ≡ true) (sym (ap item_bodies e ∙ bodies_join a (block l b c ∷ t)))
-            (either n (has_parts n (item_bodies a) (item_bodies t) h)));
-        sound = record {
-          items = fs.0;
-          focus = (
-            inner_fall true f (every_parts IsInner f k (subst (Every IsInner) q fs.1.0)).0,
-            (rc, (fs.1.1, subst FormedFocus g s.focus)),
-          );
-          middle = p.0;
-          rises = p.1.0;
-          ends = (p.1.1.0, (s.middle, (p.1.1.1, subst (λ z. RisesFocus s.middle z d.next) g s.ends)));
-        };
-      }
-    where
-      either : (n : ℕ) → (has n (item_bodies a) ≡ true) ⊎ (has n (item_bodies t) ≡ true)
-          → has n (item_bodies a ++ item_bodies (block l b c ∷ t)) ≡ true
-      either n (inl z) = has_left n (item_bodies a) _ z
-      either n (inr z) = has_right n (item_bodies a) _ (more_body n l.id (delegates c.sentence.kind) (item_bodies t) z)
+  -- a block of the document, of which a front stays
+  module _ (a t : List Item) (l : Entry) (b f k : List Entry) (c : Entry) (e : d.items ≡ a ++ (block l b c ∷ t)) (q : b ≡ f ++ k) where
+    unclose_keeps : Keeps L d (unclose a l f c d)
+    unclose_keeps = let p = rising a (block l b c ∷ t) e in let mid = rises_le (suc l.id) s.middle t p.1.1.1 in
+        record {
+          works = front_works a (block l b c ∷ t) e;
+          bodies = front_bodies a (block l b c ∷ t) e;
+          sound = record {
+            items = (forming a (block l b c ∷ t) e).0;
+            focus = inner_fall (delegates c.sentence.kind) f
+                (every_parts IsInner f k (subst (Every IsInner) q (forming a (block l b c ∷ t) e).1.0)).0;
+            middle = p.0;
+            rises = p.1.0;
+            ends = (p.1.1.0, omega (arith, mid, bound));
+          };
+        }
 
-  reenter_keeps : (g : Focus) → d.focus ≡ g → (a t : List Item) (l : Entry) (b f k : List Entry) (c : Entry)
-      → d.items ≡ a ++ (block l b c ∷ t) → b ≡ f ++ k → Keeps L d (reenter g a l f c t d)
-  reenter_keeps (last o) g a t l b f k c e q = go (reopens c.sentence.kind) refl
-    where
-      go : (r : Bool) → reopens c.sentence.kind ≡ r → Keeps L d (if r then reopen a l f c t o d else unclose a l f c d)
-      go true h = reopen_keeps a t l b f k c o e q h g
-      go false h = unclose_keeps a t l b f k c e q
-  reenter_keeps (zone m y x u o) g a t l b f k c e q = unclose_keeps a t l b f k c e q
+    reopen_works : (o : End) → reopens c.sentence.kind ≡ true → d.focus ≡ last o → (w : Work State) → Member w (works L d)
+        → has w.lemma (item_bodies a ++ item_bodies t) ≡ true
+        → Member w (item_works L L.start a ++ focus_works L (through L L.start (entries a)) (zone l (fall true f) (set (λ u. false) c) t o))
+    reopen_works o rc g w m h =
+        go (member_parts w (item_works L L.start a) _ (subst (λ z. Member w z) (ap (item_works L L.start) e ∙
+        works_join L L.start a (block l b c ∷ t)) (at_end w _ (focused L w d (last o) g m))))
+      where
+        inner : Every IsInner b
+        inner = (forming a (block l b c ∷ t) e).1.0
+
+        front : Every IsInner f
+        front = (every_parts IsInner f k (subst (Every IsInner) q inner)).0
+
+        lemma_of : (r : Bool) → Member w (work_if L r (through L L.start (entries a)) l b c) → w.lemma ≡ l.id
+        lemma_of true (inl z) = ap (λ y. y.lemma) z
+        lemma_of true (inr z) = absurd z
+        lemma_of false z = absurd z
+
+        apart : w.lemma ≡ l.id → (has w.lemma (item_bodies a) ≡ true) ⊎ (has w.lemma (item_bodies t) ≡ true) → ⊥
+        apart z (inl y) = let low = bodies_within w.lemma 0 _ a (rising a (block l b c ∷ t) e).1.0 y in let up =
+            (rising a (block l b c ∷ t) e).1.1.0 in omega (arith, z, low.1, up)
+        apart z (inr y) = let high = bodies_within w.lemma (suc l.id) s.middle t (rising a (block l b c ∷ t) e).1.1.1 y in
+            omega (arith, z, high.0)
+
+        tail : Member w (work_if L (delegates c.sentence.kind) (through L L.start (entries a)) l b c) ⊎
+            Member w (item_works L (through L (through L L.start (entries a)) (l ∷ (b ++ (c ∷ [])))) t)
+            → Member w (item_works L (through L (through L L.start (entries a)) (l ∷ (fall true f ++ (set (λ u. false) c ∷ [])))) t)
+        tail (inl z) = absurd (apart (lemma_of (delegates c.sentence.kind) z) (has_parts w.lemma (item_bodies a) (item_bodies t) h))
+        tail (inr z) = subst (λ u. Member w (item_works L u t)) (behind_same L laws (through L L.start (entries a)) l b
+            (fall true f) c (set (λ u. false) c) inner (inner_fall true f front) rc rc) z
+
+        go : Member w (item_works L L.start a) ⊎ Member w (item_works L (through L L.start (entries a)) (block l b c ∷ t))
+            → Member w (item_works L L.start a ++ item_works L (through L (through L L.start (entries a))
+            (l ∷ (fall true f ++ (set (λ u. false) c ∷ [])))) t)
+        go (inl z) = member_left w (item_works L L.start a) _ z
+        go (inr z) = member_right w (item_works L L.start a) _
+            (tail (member_parts w (work_if L (delegates c.sentence.kind) (through L L.start (entries a)) l b c) _ z))
+
+    reopen_keeps : (o : End) → reopens c.sentence.kind ≡ true → d.focus ≡ last o → Keeps L d (reopen a l f c t o d)
+    reopen_keeps o rc g = let p = rising a (block l b c ∷ t) e in let fs = forming a (block l b c ∷ t) e in
+        record {
+          works = reopen_works o rc g;
+          bodies = λ n h. has_left n (item_bodies d.items) _
+              (subst (λ z. has n z ≡ true) (sym (ap item_bodies e ∙ bodies_join a (block l b c ∷ t)))
+              (either n (has_parts n (item_bodies a) (item_bodies t) h)));
+          sound = record {
+            items = fs.0;
+            focus = (
+              inner_fall true f (every_parts IsInner f k (subst (Every IsInner) q fs.1.0)).0,
+              (rc, (fs.1.1, subst FormedFocus g s.focus)),
+            );
+            middle = p.0;
+            rises = p.1.0;
+            ends = (p.1.1.0, (s.middle, (p.1.1.1, subst (λ z. RisesFocus s.middle z d.next) g s.ends)));
+          };
+        }
+      where
+        either : (n : ℕ) → (has n (item_bodies a) ≡ true) ⊎ (has n (item_bodies t) ≡ true)
+            → has n (item_bodies a ++ item_bodies (block l b c ∷ t)) ≡ true
+        either n (inl z) = has_left n (item_bodies a) _ z
+        either n (inr z) = has_right n (item_bodies a) _ (more_body n l.id (delegates c.sentence.kind) (item_bodies t) z)
+
+    reenter_keeps : (g : Focus) → d.focus ≡ g → Keeps L d (reenter g a l f c t d)
+    reenter_keeps (last o) g = go (reopens c.sentence.kind) refl
+      where
+        go : (r : Bool) → reopens c.sentence.kind ≡ r → Keeps L d (if r then reopen a l f c t o d else unclose a l f c d)
+        go true h = reopen_keeps o h g
+        go false h = unclose_keeps
+    reenter_keeps (zone m y x u o) g = unclose_keeps
 
   less : (k : List Entry) (c : Entry) → (lessened k c).sentence ≡ c.sentence
   less [] c = refl
@@ -376,7 +374,7 @@ module _ {State : Type 0} (L : Check State) (laws : Laws L) (d : Document) (s : 
       let rk : reopens (lessened k c).sentence.kind ≡ true = ap (λ z. reopens z.kind) (less k c) ∙ fs.1.0 in
       record {
         works = λ w m h. subst (λ z. Member w (item_works L L.start d.items ++ z))
-            (zone_works L laws w (through L L.start (entries d.items)) l b f c (lessened k c) t o fs.0 front fs.1.0 rk)
+            (zone_works L laws w l b c t o fs.0 fs.1.0 (through L L.start (entries d.items)) f (lessened k c) front rk)
             (focused L w d (zone l b c t o) g m);
         bodies = λ n h. subst (λ z. has n (item_bodies d.items ++ focus_bodies z) ≡ true) (sym g) h;
         sound = record {
@@ -396,7 +394,7 @@ module _ {State : Type 0} (L : Check State) (laws : Laws L) (d : Document) (s : 
   remove_at_keeps : (x : Seat) → IsSeat d.items d.focus x → IfChanged (Keeps L d) (remove_at x d)
   remove_at_keeps (among (at_lone a e t)) h = only_keeps a (lone e ∷ t) h
   remove_at_keeps (among (at_lemma a l b c t)) h = only_keeps a (block l b c ∷ t) h
-  remove_at_keeps (among (at_inner a l f e k c t)) h = reenter_keeps d.focus refl a t l (f ++ (e ∷ k)) f (e ∷ k) c h refl
+  remove_at_keeps (among (at_inner a l f e k c t)) h = reenter_keeps a t l (f ++ (e ∷ k)) f (e ∷ k) c h refl d.focus refl
   remove_at_keeps (among (at_closer a l b c t)) h = unclose_keeps a t l b b [] c h (same_parts b)
   remove_at_keeps (among missing) h = tt
   remove_at_keeps (open_lemma l b) h = only_keeps d.items [] (whole_parts d.items)
@@ -416,13 +414,14 @@ remove_keeps L laws d i s = remove_at_keeps L laws d s (seat i d) (seat_is i d)
 keeps_same : {State : Type 0} (L : Check State) (d : Document) → Sound d → Keeps L d d
 keeps_same L d s = record { works = λ w m h. m; bodies = λ n h. h; sound = s }
 
-cancel_step_keeps : {State : Type 0} (L : Check State) (tag : List ℕ) (i : ℕ) (d : Document) (e : Edited) (more : Document → Removed)
-    → Sound d → IfChanged (Keeps L d) e
-    → ((d : Document) → Sound d → Keeps L d (more d).document) → Keeps L d (cancel_step tag i d e more).document
-cancel_step_keeps L tag i d unknown more s h k = k d s
-cancel_step_keeps L tag i d (refused_by x) more s h k = keeps_same L d s
-cancel_step_keeps L tag i d (changed e) more s h k = let r = k e h.sound in
-    record { works = λ w m y. r.works w (h.works w m (r.bodies w.lemma y)) y; bodies = λ n y. h.bodies n (r.bodies n y); sound = r.sound }
+module _ {State : Type 0} (L : Check State) (tag : List ℕ) where
+  cancel_step_keeps : (i : ℕ) (d : Document) (e : Edited) (more : Document → Removed)
+      → Sound d → IfChanged (Keeps L d) e
+      → ((d : Document) → Sound d → Keeps L d (more d).document) → Keeps L d (cancel_step tag i d e more).document
+  cancel_step_keeps i d unknown more s h k = k d s
+  cancel_step_keeps i d (refused_by x) more s h k = keeps_same L d s
+  cancel_step_keeps i d (changed e) more s h k = let r = k e h.sound in
+      record { works = λ w m y. r.works w (h.works w m (r.bodies w.lemma y)) y; bodies = λ n y. h.bodies n (r.bodies n y); sound = r.sound }
 
 pub cancel_all_keeps : {State : Type 0} (L : Check State) → Laws L → (tag : List ℕ) (is : List ℕ) (d : Document) → Sound d
     → Keeps L d (cancel_all tag is d).document

@@ -183,20 +183,21 @@ if_shape : (c : Bool) (x y : lines.Spot) (u v : Spot) → x ≡ shape_spot u →
 if_shape true x y u v h k = h
 if_shape false x y u v h k = k
 
-inside_shape : (i : ℕ) (l : Entry) (b : List Entry) (c : Entry) (t : List Item) (s : Split) (x : lines.Spot) (y : Spot) → x ≡ shape_spot y
-    → lines.inside i l.id (named b) (closing c) (shape_items t) (shape_split s) x ≡ shape_spot (inside i l b c t s y)
-inside_shape i l b c t (found f e k) x y h = refl
-inside_shape i l b c t unfound x y h = if_shape (nat_eq i c.id) _ x (at_closer [] l b c t) y refl h
+module _ (i : ℕ) where
+  inside_shape : (l : Entry) (b : List Entry) (c : Entry) (t : List Item) (s : Split) (x : lines.Spot) (y : Spot) → x ≡ shape_spot y
+      → lines.inside i l.id (named b) (closing c) (shape_items t) (shape_split s) x ≡ shape_spot (inside i l b c t s y)
+  inside_shape l b c t (found f e k) x y h = refl
+  inside_shape l b c t unfound x y h = if_shape (nat_eq i c.id) _ x (at_closer [] l b c t) y refl h
 
-locate_shape : (i : ℕ) (xs : List Item) → lines.locate i (shape_items xs) ≡ shape_spot (locate i xs)
-locate_shape i [] = refl
-locate_shape i (lone e ∷ t) = if_shape (nat_eq i e.id) _ _ (at_lone [] e t) (under (lone e) (locate i t)) refl
-    (ap (lines.under (lone e.id)) (locate_shape i t) ∙ under_shape (lone e) (locate i t))
-locate_shape i (block l b c ∷ t) = if_shape (nat_eq i l.id) _ _ (at_lemma [] l b c t) _ refl
-    (ap (λ s. lines.inside i l.id (named b) (closing c) (shape_items t) s (lines.under (block l.id (named b) (closing c))
-    (lines.locate i (shape_items t)))) (split_shape i b)
-    ∙ inside_shape i l b c t (split i b) _ (under (block l b c) (locate i t))
-    (ap (lines.under (block l.id (named b) (closing c))) (locate_shape i t) ∙ under_shape (block l b c) (locate i t)))
+  locate_shape : (xs : List Item) → lines.locate i (shape_items xs) ≡ shape_spot (locate i xs)
+  locate_shape [] = refl
+  locate_shape (lone e ∷ t) = if_shape (nat_eq i e.id) _ _ (at_lone [] e t) (under (lone e) (locate i t)) refl
+      (ap (lines.under (lone e.id)) (locate_shape t) ∙ under_shape (lone e) (locate i t))
+  locate_shape (block l b c ∷ t) = if_shape (nat_eq i l.id) _ _ (at_lemma [] l b c t) _ refl
+      (ap (λ s. lines.inside i l.id (named b) (closing c) (shape_items t) s (lines.under (block l.id (named b) (closing c))
+      (lines.locate i (shape_items t)))) (split_shape i b)
+      ∙ inside_shape l b c t (split i b) _ (under (block l b c) (locate i t))
+      (ap (lines.under (block l.id (named b) (closing c))) (locate_shape t) ∙ under_shape (block l b c) (locate i t)))
 
 abbrev shape_seat : Seat → edits.Seat
 shape_seat (among s) = edits.among (shape_spot s)
@@ -364,46 +365,47 @@ put_in : (d : Document) (g : Focus) → d.focus ≡ g → (k : Kind) (n : lines.
     → put k d.next (edits.line_of (shape_items d.items) (shape_focus g)) ≡ n → put k d.next (shape d) ≡ n
 put_in d g e k n h = ap (λ z. put k d.next (edits.line_of (shape_items d.items) (shape_focus z))) e ∙ h
 
-fold_shape : (d : Document) (x : Sentence) (l : Entry) (b : List Entry) (c : Entry) (t : List Item) (o : End) → reopens x.kind ≡ true
-    → reopens c.sentence.kind ≡ true
-    → shape (refolded d x l b c t o) ≡ lines.refolded (edits.line_of (shape_items d.items) (shape_focus (zone l b c t o)))
-fold_shape d x l b c t o h r = ap (λ z. edits.line_of z (last (shape_end o)))
-    (more_items d.items (block l (fall true b) (untold c.id x) ∷ t))
-    ∙ (λ i. edits.line_of (shape_items d.items
-    ++ (block l.id (named_fall true b i) (record { id = c.id; opaque = (h ∙ sym r) i }) ∷ shape_items t)) (last (shape_end o)))
+module _ (d : Document) (x : Sentence) where
+  fold_shape : (l : Entry) (b : List Entry) (c : Entry) (t : List Item) (o : End) → reopens x.kind ≡ true
+      → reopens c.sentence.kind ≡ true
+      → shape (refolded d x l b c t o) ≡ lines.refolded (edits.line_of (shape_items d.items) (shape_focus (zone l b c t o)))
+  fold_shape l b c t o h r = ap (λ z. edits.line_of z (last (shape_end o)))
+      (more_items d.items (block l (fall true b) (untold c.id x) ∷ t))
+      ∙ (λ i. edits.line_of (shape_items d.items
+      ++ (block l.id (named_fall true b i) (record { id = c.id; opaque = (h ∙ sym r) i }) ∷ shape_items t)) (last (shape_end o)))
 
-attempt_at_shape : (d : Document) (p : ℕ) (x : Sentence) (k : Kind) (f : Focus) → x.kind ≡ k → d.focus ≡ f → FormedFocus f
-    → IfAdded (λ e. shape e ≡ put k d.next (shape d)) (attempt_at d p x k f)
-attempt_at_shape d p x plain (last closed) q e h = if_grown d p (d.items ++ lone (fresh d x) ∷ []) (last closed) _
-    (ap (λ z. edits.line_of z (last closed)) (more_items d.items (lone (fresh d x) ∷ [])) ∙ sym (put_in d (last closed) e plain _ refl))
-attempt_at_shape d p x plain (last (proof l b)) q e h = tt
-attempt_at_shape d p x plain (zone l b c t o) q e h = tt
-attempt_at_shape d p x begin (last closed) q e h = if_grown d p d.items (last (proof (fresh d x) [])) _ refl
-attempt_at_shape d p x begin (last (proof l b)) q e h = tt
-attempt_at_shape d p x begin (zone l b c t o) q e h = tt
-attempt_at_shape d p x inner (last closed) q e h = tt
-attempt_at_shape d p x inner (last (proof l b)) q e h = if_grown d p d.items (last (proof l (b ++ fresh d x ∷ []))) _
-    (ap (λ z. edits.line_of (shape_items d.items) (last (proof l.id z))) (named_join b (fresh d x ∷ [])) ∙
-    sym (put_in d (last (proof l b)) e inner _ refl))
-attempt_at_shape d p x inner (zone l b c t o) q e h = if_grown d p d.items (zone l (b ++ fresh d x ∷ []) (set (λ u. false) c) t o) _
-    (ap (λ z. edits.line_of (shape_items d.items) (zone l.id z (closing c) (shape_items t) (shape_end o)))
-    (named_join b (fresh d x ∷ [])) ∙ sym (put_in d (zone l b c t o) e inner _ refl))
-attempt_at_shape d p x (close k) (last closed) q e h = tt
-attempt_at_shape d p x (close k) (last (proof l b)) q e h =
-    if_grown d p (d.items ++ block l (fall (delegates x.kind) b) (fresh d x) ∷ []) (last closed) _
-    (ap (λ z. edits.line_of z (last closed)) (more_items d.items (block l (fall (delegates x.kind) b) (fresh d x) ∷ []))
-    ∙ (λ i. edits.line_of (shape_items d.items ++ (block l.id (named_fall (delegates x.kind) b i)
-    (record { id = d.next; opaque = reopens (q i) }) ∷ [])) (last closed))
-    ∙ sym (put_in d (last (proof l b)) e (close k) _ refl))
-attempt_at_shape d p x (close qed) (zone l b c t o) q e h = fold_shape d x l b c t o (ap reopens q) h.1.0
-    ∙ sym (put_in d (zone l b c t o) e (close qed) _ refl)
-attempt_at_shape d p x (close admitted) (zone l b c t o) q e h = fold_shape d x l b c t o (ap reopens q) h.1.0
-    ∙ sym (put_in d (zone l b c t o) e (close admitted) _ refl)
-attempt_at_shape d p x (close defined) (zone l b c t o) q e h = tt
-attempt_at_shape d p x (close abort) (zone l b c t o) q e h = tt
+  attempt_at_shape : (p : ℕ) (k : Kind) (f : Focus) → x.kind ≡ k → d.focus ≡ f → FormedFocus f
+      → IfAdded (λ e. shape e ≡ put k d.next (shape d)) (attempt_at d p x k f)
+  attempt_at_shape p plain (last closed) q e h = if_grown d p (d.items ++ lone (fresh d x) ∷ []) (last closed) _
+      (ap (λ z. edits.line_of z (last closed)) (more_items d.items (lone (fresh d x) ∷ [])) ∙ sym (put_in d (last closed) e plain _ refl))
+  attempt_at_shape p plain (last (proof l b)) q e h = tt
+  attempt_at_shape p plain (zone l b c t o) q e h = tt
+  attempt_at_shape p begin (last closed) q e h = if_grown d p d.items (last (proof (fresh d x) [])) _ refl
+  attempt_at_shape p begin (last (proof l b)) q e h = tt
+  attempt_at_shape p begin (zone l b c t o) q e h = tt
+  attempt_at_shape p inner (last closed) q e h = tt
+  attempt_at_shape p inner (last (proof l b)) q e h = if_grown d p d.items (last (proof l (b ++ fresh d x ∷ []))) _
+      (ap (λ z. edits.line_of (shape_items d.items) (last (proof l.id z))) (named_join b (fresh d x ∷ [])) ∙
+      sym (put_in d (last (proof l b)) e inner _ refl))
+  attempt_at_shape p inner (zone l b c t o) q e h = if_grown d p d.items (zone l (b ++ fresh d x ∷ []) (set (λ u. false) c) t o) _
+      (ap (λ z. edits.line_of (shape_items d.items) (zone l.id z (closing c) (shape_items t) (shape_end o)))
+      (named_join b (fresh d x ∷ [])) ∙ sym (put_in d (zone l b c t o) e inner _ refl))
+  attempt_at_shape p (close k) (last closed) q e h = tt
+  attempt_at_shape p (close k) (last (proof l b)) q e h =
+      if_grown d p (d.items ++ block l (fall (delegates x.kind) b) (fresh d x) ∷ []) (last closed) _
+      (ap (λ z. edits.line_of z (last closed)) (more_items d.items (block l (fall (delegates x.kind) b) (fresh d x) ∷ []))
+      ∙ (λ i. edits.line_of (shape_items d.items ++ (block l.id (named_fall (delegates x.kind) b i)
+      (record { id = d.next; opaque = reopens (q i) }) ∷ [])) (last closed))
+      ∙ sym (put_in d (last (proof l b)) e (close k) _ refl))
+  attempt_at_shape p (close qed) (zone l b c t o) q e h = fold_shape l b c t o (ap reopens q) h.1.0
+      ∙ sym (put_in d (zone l b c t o) e (close qed) _ refl)
+  attempt_at_shape p (close admitted) (zone l b c t o) q e h = fold_shape l b c t o (ap reopens q) h.1.0
+      ∙ sym (put_in d (zone l b c t o) e (close admitted) _ refl)
+  attempt_at_shape p (close defined) (zone l b c t o) q e h = tt
+  attempt_at_shape p (close abort) (zone l b c t o) q e h = tt
 
 pub attempt_shape : (d : Document) (p : ℕ) (x : Sentence) → Sound d → IfAdded (λ e. shape e ≡ put x.kind d.next (shape d)) (attempt d p x)
-attempt_shape d p x s = attempt_at_shape d p x x.kind d.focus refl refl s.focus
+attempt_shape d p x s = attempt_at_shape d x p x.kind d.focus refl refl s.focus
 
 -- ---- edit
 
@@ -419,77 +421,79 @@ SpotAt i (at_inner a l f e k c t) = i ≡ e.id
 SpotAt i (at_closer a l b c t) = Unit {0}
 SpotAt i missing = Unit {0}
 
-after_at : (i : ℕ) (x : Entry) (s : Split) → SplitAt i s → SplitAt i (after x s)
-after_at i x (found f e k) h = h
-after_at i x unfound h = h
+module _ (i : ℕ) where
+  after_at : (x : Entry) (s : Split) → SplitAt i s → SplitAt i (after x s)
+  after_at x (found f e k) h = h
+  after_at x unfound h = h
 
-split_at : (i : ℕ) (b : List Entry) → SplitAt i (split i b)
-split_at i [] = tt
-split_at i (e ∷ b) = go (nat_eq i e.id) refl (after_at i e (split i b) (split_at i b))
-  where
-    go : (c : Bool) → nat_eq i e.id ≡ c → SplitAt i (after e (split i b))
-        → SplitAt i (if c then found [] e b else after e (split i b))
-    go true q h = test_equal i e.id q
-    go false q h = h
+  split_at : (b : List Entry) → SplitAt i (split i b)
+  split_at [] = tt
+  split_at (e ∷ b) = go (nat_eq i e.id) refl (after_at e (split i b) (split_at b))
+    where
+      go : (c : Bool) → nat_eq i e.id ≡ c → SplitAt i (after e (split i b))
+          → SplitAt i (if c then found [] e b else after e (split i b))
+      go true q h = test_equal i e.id q
+      go false q h = h
 
-under_at : (i : ℕ) (x : Item) (s : Spot) → SpotAt i s → SpotAt i (under x s)
-under_at i x (at_lone a e t) h = h
-under_at i x (at_lemma a l b c t) h = h
-under_at i x (at_inner a l f e k c t) h = h
-under_at i x (at_closer a l b c t) h = h
-under_at i x missing h = h
+  under_at : (x : Item) (s : Spot) → SpotAt i s → SpotAt i (under x s)
+  under_at x (at_lone a e t) h = h
+  under_at x (at_lemma a l b c t) h = h
+  under_at x (at_inner a l f e k c t) h = h
+  under_at x (at_closer a l b c t) h = h
+  under_at x missing h = h
 
-if_at : (i : ℕ) (c : Bool) (x y : Spot) → (c ≡ true → SpotAt i x) → SpotAt i y → SpotAt i (if c then x else y)
-if_at i true x y h k = h refl
-if_at i false x y h k = k
+  if_at : (c : Bool) (x y : Spot) → (c ≡ true → SpotAt i x) → SpotAt i y → SpotAt i (if c then x else y)
+  if_at true x y h k = h refl
+  if_at false x y h k = k
 
-inside_at : (i : ℕ) (l : Entry) (b : List Entry) (c : Entry) (t : List Item) (s : Split) (x : Spot) → SplitAt i s → SpotAt i x
-    → SpotAt i (inside i l b c t s x)
-inside_at i l b c t (found f e k) x h u = h
-inside_at i l b c t unfound x h k = if_at i (nat_eq i c.id) (at_closer [] l b c t) x (λ q. tt) k
+  inside_at : (l : Entry) (b : List Entry) (c : Entry) (t : List Item) (s : Split) (x : Spot) → SplitAt i s → SpotAt i x
+      → SpotAt i (inside i l b c t s x)
+  inside_at l b c t (found f e k) x h u = h
+  inside_at l b c t unfound x h k = if_at (nat_eq i c.id) (at_closer [] l b c t) x (λ q. tt) k
 
-locate_at : (i : ℕ) (xs : List Item) → SpotAt i (locate i xs)
-locate_at i [] = tt
-locate_at i (lone e ∷ t) = if_at i (nat_eq i e.id) (at_lone [] e t) _ (λ q. test_equal i e.id q)
-    (under_at i (lone e) (locate i t) (locate_at i t))
-locate_at i (block l b c ∷ t) = if_at i (nat_eq i l.id) (at_lemma [] l b c t) _ (λ q. test_equal i l.id q)
-    (inside_at i l b c t (split i b) _ (split_at i b) (under_at i (block l b c) (locate i t) (locate_at i t)))
+  locate_at : (xs : List Item) → SpotAt i (locate i xs)
+  locate_at [] = tt
+  locate_at (lone e ∷ t) = if_at (nat_eq i e.id) (at_lone [] e t) _ (λ q. test_equal i e.id q)
+      (under_at (lone e) (locate i t) (locate_at t))
+  locate_at (block l b c ∷ t) = if_at (nat_eq i l.id) (at_lemma [] l b c t) _ (λ q. test_equal i l.id q)
+      (inside_at l b c t (split i b) _ (split_at b) (under_at (block l b c) (locate i t) (locate_at t)))
 
--- what is dropped, and where a zone is opened, at the place that was found
-dropped_to : (i : ℕ) (d : Document) (s : Spot) → nat_eq i 1 ≡ false → locate i d.items ≡ s
-    → lines.dropped i (shape d) ≡ lines.dropped_at i (shape_spot s) (shape d)
-dropped_to i d s n q = ap (λ z. if z then lines.empty else lines.dropped_at i (lines.locate i (shape_items d.items)) (shape d)) n
-    ∙ ap (λ z. lines.dropped_at i z (shape d)) (locate_shape i d.items ∙ ap shape_spot q)
+module _ (i : ℕ) (d : Document) (s : Spot) where
+  -- what is dropped, and where a zone is opened, at the place that was found
+  dropped_to : nat_eq i 1 ≡ false → locate i d.items ≡ s
+      → lines.dropped i (shape d) ≡ lines.dropped_at i (shape_spot s) (shape d)
+  dropped_to n q = ap (λ z. if z then lines.empty else lines.dropped_at i (lines.locate i (shape_items d.items)) (shape d)) n
+      ∙ ap (λ z. lines.dropped_at i z (shape d)) (locate_shape i d.items ∙ ap shape_spot q)
 
-zoned_to : (i : ℕ) (d : Document) (s : Spot) (o : End) → d.focus ≡ last o → locate i d.items ≡ s
-    → lines.zoned i (shape d) ≡ lines.zoned_at i (shape_spot s) (shape d) (shape_end o)
-zoned_to i d s o e q = ap (λ z. lines.zoned_in i (shape d) (shape_focus z)) e
-    ∙ ap (λ z. lines.zoned_at i z (shape d) (shape_end o)) (locate_shape i d.items ∙ ap shape_spot q)
+  zoned_to : (o : End) → d.focus ≡ last o → locate i d.items ≡ s
+      → lines.zoned i (shape d) ≡ lines.zoned_at i (shape_spot s) (shape d) (shape_end o)
+  zoned_to o e q = ap (λ z. lines.zoned_in i (shape d) (shape_focus z)) e
+      ∙ ap (λ z. lines.zoned_at i z (shape d) (shape_end o)) (locate_shape i d.items ∙ ap shape_spot q)
 
--- at the lemma or inside of a closed block the edit is that of its front
-block_edit : (i : ℕ) (d : Document) (s : Spot) (a : List Item) (l : Entry) (f : List Entry) (c : Entry) (t : List Item)
-    → edits.takes_zone (shape_spot s) ≡ reopens c.sentence.kind
-    → lines.dropped i (shape d) ≡ edits.line_of (shape_items a) (last (proof l.id (named f)))
-    → ((o : End) → d.focus ≡ last o
-    → lines.zoned i (shape d) ≡ edits.line_of (shape_items a) (zone l.id (named f) (closing c) (shape_items t) (shape_end o)))
-    → edits.changed (edits.edited_among i (shape_spot s) (shape d) (shape_focus d.focus))
-    ≡ edits.changed (shape (reenter d.focus a l f c t d))
-block_edit i d s a l f c t w p z = ap edits.changed (go d.focus refl ∙ reenter_shape d d.focus a l f c t)
-  where
-    go : (g : Focus) → d.focus ≡ g
-        → edits.edited_among i (shape_spot s) (shape d) (shape_focus g)
-        ≡ edits.reentered (shape_focus g) (shape_items a) l.id (named f) (closing c) (shape_items t)
-    go (last o) e = λ j. if w j then z o e j else p j
-    go (zone m b k u o) e = p
+  -- at the lemma or inside of a closed block the edit is that of its front
+  block_edit : (a : List Item) (l : Entry) (f : List Entry) (c : Entry) (t : List Item)
+      → edits.takes_zone (shape_spot s) ≡ reopens c.sentence.kind
+      → lines.dropped i (shape d) ≡ edits.line_of (shape_items a) (last (proof l.id (named f)))
+      → ((o : End) → d.focus ≡ last o
+      → lines.zoned i (shape d) ≡ edits.line_of (shape_items a) (zone l.id (named f) (closing c) (shape_items t) (shape_end o)))
+      → edits.changed (edits.edited_among i (shape_spot s) (shape d) (shape_focus d.focus))
+      ≡ edits.changed (shape (reenter d.focus a l f c t d))
+  block_edit a l f c t w p z = ap edits.changed (go d.focus refl ∙ reenter_shape d d.focus a l f c t)
+    where
+      go : (g : Focus) → d.focus ≡ g
+          → edits.edited_among i (shape_spot s) (shape d) (shape_focus g)
+          ≡ edits.reentered (shape_focus g) (shape_items a) l.id (named f) (closing c) (shape_items t)
+      go (last o) e = λ j. if w j then z o e j else p j
+      go (zone m b k u o) e = p
 
-lone_edit : (i : ℕ) (d : Document) (s : Spot) (n : lines.Line) → edits.takes_zone (shape_spot s) ≡ false
-    → lines.dropped i (shape d) ≡ n
-    → edits.changed (edits.edited_among i (shape_spot s) (shape d) (shape_focus d.focus)) ≡ edits.changed n
-lone_edit i d s n w p = ap edits.changed (go d.focus)
-  where
-    go : (g : Focus) → edits.edited_among i (shape_spot s) (shape d) (shape_focus g) ≡ n
-    go (last o) = ap (λ z. if z then lines.zoned i (shape d) else lines.dropped i (shape d)) w ∙ p
-    go (zone m b k u o) = p
+  lone_edit : (n : lines.Line) → edits.takes_zone (shape_spot s) ≡ false
+      → lines.dropped i (shape d) ≡ n
+      → edits.changed (edits.edited_among i (shape_spot s) (shape d) (shape_focus d.focus)) ≡ edits.changed n
+  lone_edit n w p = ap edits.changed (go d.focus)
+    where
+      go : (g : Focus) → edits.edited_among i (shape_spot s) (shape d) (shape_focus g) ≡ n
+      go (last o) = ap (λ z. if z then lines.zoned i (shape d) else lines.dropped i (shape d)) w ∙ p
+      go (zone m b k u o) = p
 
 -- in the block that is open at the cursor
 open_edit : (i : ℕ) (d : Document) (g : Focus) (f gone : List Entry) → d.focus ≡ g

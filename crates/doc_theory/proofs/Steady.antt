@@ -218,21 +218,32 @@ module _ {State : Type 0} (L : Check State) where
   zone_parts l b c t o =
       ap (λ z. mark outside l ∷ z) (sym (append_assoc (map (mark outside) b) (mark outside c ∷ []) (item_marks t ++ end_marks o)))
 
-  -- a block before the same tail: no more is noted of it, and the state behind it is the same
-  before_tail : (s : State) (h k : Home) (l : Entry) (b f : List Entry) (c e : Entry) (rest : List Mark)
-      → through L s (l ∷ (f ++ (e ∷ []))) ≡ through L s (l ∷ (b ++ (c ∷ [])))
-      → Sub (leaves L s l.id l.sentence) (map (mark k) f ++ (mark k e ∷ [])) (map (mark h) b ++ (mark h c ∷ []))
-      → Sub s ((mark outside l ∷ (map (mark k) f ++ (mark k e ∷ []))) ++ rest)
-      ((mark outside l ∷ (map (mark h) b ++ (mark h c ∷ []))) ++ rest)
-  before_tail s h k l b f c e rest q sub = sub_join s (mark outside l ∷ (map (mark k) f ++ (mark k e ∷ [])))
-      (mark outside l ∷ (map (mark h) b ++ (mark h c ∷ []))) rest rest
-      (sub_first s (mark outside l) (map (mark k) f ++ (mark k e ∷ [])) (map (mark h) b ++ (mark h c ∷ [])) sub)
-      (passed_block s k l f e ∙ q ∙ sym (passed_block s h l b c)) (sub_same _ rest)
-
   -- an untold closer behind a front
   untold_closer : (s : State) (h : Home) (f k : List Mark) (i : ℕ) (x : Sentence) (c : List Mark) → Sub s f (k ++ c)
       → Sub s (f ++ (mark h (untold i x) ∷ [])) (k ++ c)
   untold_closer s h f k i x c sub t m = sub t (sub_end s f _ (new_one h (passed L s f) i x) t m)
+
+  -- a block before a tail
+  module _ (s : State) (h k : Home) (l : Entry) (b : List Entry) (c : Entry) (rest : List Mark) where
+    -- with another inside and closer no more is noted of it, and the state behind it is the same
+    before_tail : (f : List Entry) (e : Entry) → through L s (l ∷ (f ++ (e ∷ []))) ≡ through L s (l ∷ (b ++ (c ∷ [])))
+        → Sub (leaves L s l.id l.sentence) (map (mark k) f ++ (mark k e ∷ [])) (map (mark h) b ++ (mark h c ∷ []))
+        → Sub s ((mark outside l ∷ (map (mark k) f ++ (mark k e ∷ []))) ++ rest)
+        ((mark outside l ∷ (map (mark h) b ++ (mark h c ∷ []))) ++ rest)
+    before_tail f e q sub = sub_join s (mark outside l ∷ (map (mark k) f ++ (mark k e ∷ [])))
+        (mark outside l ∷ (map (mark h) b ++ (mark h c ∷ []))) rest rest
+        (sub_first s (mark outside l) (map (mark k) f ++ (mark k e ∷ [])) (map (mark h) b ++ (mark h c ∷ [])) sub)
+        (passed_block s k l f e ∙ q ∙ sym (passed_block s h l b c)) (sub_same _ rest)
+
+    -- with its inside and closer untold
+    steady_fallen : Laws L → (i : ℕ) (x : Sentence) (f : List Entry) → Every IsInner b → Every IsInner f → reopens c.sentence.kind ≡ true
+        → reopens x.kind ≡ true → Sub s ((mark outside l ∷ (map (mark k) (fall true f) ++ (mark k (untold i x) ∷ []))) ++ rest)
+        ((mark outside l ∷ (map (mark h) b ++ (mark h c ∷ []))) ++ rest)
+    steady_fallen laws i x f hb hf rc rx = before_tail (fall true f) (untold i x)
+        (behind_same L laws s l (fall true f) b (untold i x) c (inner_fall true f hf) hb rx rc)
+        (untold_closer (leaves L s l.id l.sentence) k (map (mark k) (fall true f)) (map (mark h) b) i x (mark h c ∷ [])
+        (sub_none (leaves L s l.id l.sentence) (map (mark k) (fall true f)) (map (mark h) b ++ (mark h c ∷ []))
+        (untold_rest k (leaves L s l.id l.sentence) f)))
 
   fallen_front : (s : State) (b f k : List Entry) (h : Home) → b ≡ f ++ k → (x : List Mark) → Sub s (map (mark h) f) (map (mark h) b ++ x)
   fallen_front s b f k h q x = subst (λ z. Sub s (map (mark h) f) (map (mark h) z ++ x)) (sym q)
@@ -293,7 +304,7 @@ module _ {State : Type 0} (L : Check State) where
         let all : Every IsInner (b ++ fresh d x ∷ []) = every_join IsInner b _ fs.0 (q, tt) in
         let both = subst (λ z. Sub at z ((mark outside l ∷ (map (mark outside) b ++ (mark outside c ∷ [])))
         ++ (item_marks t ++ end_marks o))) (sym (zone_parts l (b ++ fresh d x ∷ []) (set (λ u. false) c) t o))
-        (before_tail at outside outside l b (b ++ fresh d x ∷ []) c (set (λ u. false) c) (item_marks t ++ end_marks o)
+        (before_tail at outside outside l b c (item_marks t ++ end_marks o) (b ++ fresh d x ∷ []) (set (λ u. false) c)
         (behind_same L laws at l (b ++ fresh d x ∷ []) b (set (λ u. false) c) c all fs.0 fs.1.0 fs.1.0)
         (untold_closer (leaves L at l.id l.sentence) outside (map (mark outside) (b ++ fresh d x ∷ [])) (map (mark outside) b)
         c.id c.sentence (mark outside c ∷ [])
@@ -302,17 +313,6 @@ module _ {State : Type 0} (L : Check State) where
         (new_one outside (passed L (leaves L at l.id l.sentence) (map (mark outside) b)) d.next x) u
         (subst (λ z. Member u (notes (leaves L at l.id l.sentence) z)) (map_join (mark outside) b (fresh d x ∷ [])) m))))) in
         subst (Sub at (focus_marks (zone l (b ++ fresh d x ∷ []) (set (λ u. false) c) t o))) (sym (zone_parts l b c t o)) both
-
-    -- a block whose inside and closer are untold, before the tail that it had
-    steady_fallen : (k : Home) (i : ℕ) (x : Sentence) (l : Entry) (b f : List Entry) (c : Entry) (h : Home) (rest : List Mark)
-        → Every IsInner b → Every IsInner f → reopens c.sentence.kind ≡ true → reopens x.kind ≡ true → (s : State)
-        → Sub s ((mark outside l ∷ (map (mark k) (fall true f) ++ (mark k (untold i x) ∷ []))) ++ rest)
-        ((mark outside l ∷ (map (mark h) b ++ (mark h c ∷ []))) ++ rest)
-    steady_fallen k i x l b f c h rest hb hf rc rx s = before_tail s h k l b (fall true f) c (untold i x) rest
-        (behind_same L laws s l (fall true f) b (untold i x) c (inner_fall true f hf) hb rx rc)
-        (untold_closer (leaves L s l.id l.sentence) k (map (mark k) (fall true f)) (map (mark h) b) i x (mark h c ∷ [])
-        (sub_none (leaves L s l.id l.sentence) (map (mark k) (fall true f)) (map (mark h) b ++ (mark h c ∷ []))
-        (untold_rest k (leaves L s l.id l.sentence) f)))
 
     steady_fold : (x : Sentence) (l : Entry) (b : List Entry) (c : Entry) (t : List Item) (o : End) → d.focus ≡ zone l b c t o
         → reopens x.kind ≡ true → Steady L d (refolded d x l b c t o)
@@ -330,7 +330,7 @@ module _ {State : Type 0} (L : Check State) where
         (subst (λ z. Sub at z (focus_marks (zone l b c t o)))
         (sym (append_assoc (marks_of (block l (fall true b) new)) (item_marks t) (end_marks o)))
         (subst (Sub at (marks_of (block l (fall true b) new) ++ (item_marks t ++ end_marks o))) (sym (zone_parts l b c t o))
-        (steady_fallen (home (delegates x.kind) l.id) c.id x l b b c outside (item_marks t ++ end_marks o) fs.0 fs.0 fs.1.0 r at))))))
+        (steady_fallen at outside (home (delegates x.kind) l.id) l b c (item_marks t ++ end_marks o) laws c.id x b fs.0 fs.0 fs.1.0 r))))))
 
     reopening : (x : Sentence) (k : Kind) → x.kind ≡ k → reopens k ≡ true → reopens x.kind ≡ true
     reopening x k e r = subst (λ z. reopens z ≡ true) (sym e) r
@@ -374,61 +374,59 @@ module _ {State : Type 0} (L : Check State) where
     steady_only a r q = with_items a r q (only a d) (from_items a r [] (focus_marks d.focus)
         (sub_none (through L L.start (entries a)) [] (item_marks r ++ focus_marks d.focus) refl))
 
-    steady_unclose : (a t : List Item) (l : Entry) (b f k : List Entry) (c : Entry) → d.items ≡ a ++ (block l b c ∷ t) → b ≡ f ++ k
-        → Steady L d (unclose a l f c d)
-    steady_unclose a t l b f k c e q = with_items a (block l b c ∷ t) e (unclose a l f c d)
-        (from_items a (block l b c ∷ t) (end_marks (proof l (fall (delegates c.sentence.kind) f))) (focus_marks d.focus)
-        (sub_first here (mark outside l) (map (mark outside) (fall (delegates c.sentence.kind) f))
-        (((map (mark (home (delegates c.sentence.kind) l.id)) b ++ (mark (home (delegates c.sentence.kind) l.id) c ∷ []))
-        ++ item_marks t) ++ focus_marks d.focus)
-        (sub_more inside (map (mark outside) (fall (delegates c.sentence.kind) f))
-        ((map (mark (home (delegates c.sentence.kind) l.id)) b ++ (mark (home (delegates c.sentence.kind) l.id) c ∷ []))
-        ++ item_marks t) (focus_marks d.focus)
-        (sub_more inside (map (mark outside) (fall (delegates c.sentence.kind) f))
-        (map (mark (home (delegates c.sentence.kind) l.id)) b ++ (mark (home (delegates c.sentence.kind) l.id) c ∷ []))
-        (item_marks t) (go (delegates c.sentence.kind))))))
-      where
-        here : State
-        here = through L L.start (entries a)
+    -- a block of the document, of which a front stays
+    module _ (a t : List Item) (l : Entry) (b f k : List Entry) (c : Entry) (e : d.items ≡ a ++ (block l b c ∷ t)) (q : b ≡ f ++ k) where
+      steady_unclose : Steady L d (unclose a l f c d)
+      steady_unclose = with_items a (block l b c ∷ t) e (unclose a l f c d)
+          (from_items a (block l b c ∷ t) (end_marks (proof l (fall (delegates c.sentence.kind) f))) (focus_marks d.focus)
+          (sub_first here (mark outside l) (map (mark outside) (fall (delegates c.sentence.kind) f))
+          (((map (mark (home (delegates c.sentence.kind) l.id)) b ++ (mark (home (delegates c.sentence.kind) l.id) c ∷ []))
+          ++ item_marks t) ++ focus_marks d.focus)
+          (sub_more inside (map (mark outside) (fall (delegates c.sentence.kind) f))
+          ((map (mark (home (delegates c.sentence.kind) l.id)) b ++ (mark (home (delegates c.sentence.kind) l.id) c ∷ []))
+          ++ item_marks t) (focus_marks d.focus)
+          (sub_more inside (map (mark outside) (fall (delegates c.sentence.kind) f))
+          (map (mark (home (delegates c.sentence.kind) l.id)) b ++ (mark (home (delegates c.sentence.kind) l.id) c ∷ []))
+          (item_marks t) (go (delegates c.sentence.kind))))))
+        where
+          here : State
+          here = through L L.start (entries a)
 
-        inside : State
-        inside = leaves L (through L L.start (entries a)) l.id l.sentence
+          inside : State
+          inside = leaves L (through L L.start (entries a)) l.id l.sentence
 
-        go : (r : Bool)
-            → Sub (leaves L (through L L.start (entries a)) l.id l.sentence) (map (mark outside) (fall r f))
-            (map (mark (home r l.id)) b ++ (mark (home r l.id) c ∷ []))
-        go true = sub_none (leaves L (through L L.start (entries a)) l.id l.sentence) (map (mark outside) (fall true f))
-            (map (mark (body_of l.id)) b ++ (mark (body_of l.id) c ∷ []))
-            (untold_rest outside (leaves L (through L L.start (entries a)) l.id l.sentence) f)
-        go false = fallen_front (leaves L (through L L.start (entries a)) l.id l.sentence) b f k outside q (mark outside c ∷ [])
+          go : (r : Bool)
+              → Sub (leaves L (through L L.start (entries a)) l.id l.sentence) (map (mark outside) (fall r f))
+              (map (mark (home r l.id)) b ++ (mark (home r l.id) c ∷ []))
+          go true = sub_none (leaves L (through L L.start (entries a)) l.id l.sentence) (map (mark outside) (fall true f))
+              (map (mark (body_of l.id)) b ++ (mark (body_of l.id) c ∷ []))
+              (untold_rest outside (leaves L (through L L.start (entries a)) l.id l.sentence) f)
+          go false = fallen_front (leaves L (through L L.start (entries a)) l.id l.sentence) b f k outside q (mark outside c ∷ [])
 
-    steady_reopen : (a t : List Item) (l : Entry) (b f k : List Entry) (c : Entry) (o : End) → d.items ≡ a ++ (block l b c ∷ t)
-        → b ≡ f ++ k → reopens c.sentence.kind ≡ true → d.focus ≡ last o
-        → Steady L d (reopen a l f c t o d)
-    steady_reopen a t l b f k c o e q rc g =
-        let fs : Every Formed a × Every Formed (block l b c ∷ t) = every_parts Formed a (block l b c ∷ t)
-        (subst (Every Formed) e s.items) in
-        let front : Every IsInner f = (every_parts IsInner f k (subst (Every IsInner) q fs.1.0)).0 in
-        let here : State = through L L.start (entries a) in
-        let one = steady_fallen outside c.id c.sentence l b f c (home (delegates c.sentence.kind) l.id)
-        (item_marks t ++ end_marks o) fs.1.0 front rc rc here in
-        let two = subst (Sub here (focus_marks (zone l (fall true f) (set (λ u. false) c) t o)))
-        (sym (append_assoc (marks_of (block l b c)) (item_marks t) (end_marks o)))
-        (subst (λ z. Sub here z (marks_of (block l b c) ++ (item_marks t ++ end_marks o)))
-        (sym (zone_parts l (fall true f) (set (λ u. false) c) t o)) one) in
-        let three = from_items a (block l b c ∷ t) (focus_marks (zone l (fall true f) (set (λ u. false) c) t o)) (end_marks o) two in
-        with_items a (block l b c ∷ t) e (reopen a l f c t o d)
-        (subst (λ z. Sub L.start (item_marks a ++ focus_marks (zone l (fall true f) (set (λ u. false) c) t o))
-        (item_marks (a ++ (block l b c ∷ t)) ++ focus_marks z)) (sym g) three)
+      steady_reopen : (o : End) → reopens c.sentence.kind ≡ true → d.focus ≡ last o → Steady L d (reopen a l f c t o d)
+      steady_reopen o rc g =
+          let fs : Every Formed a × Every Formed (block l b c ∷ t) = every_parts Formed a (block l b c ∷ t)
+          (subst (Every Formed) e s.items) in
+          let front : Every IsInner f = (every_parts IsInner f k (subst (Every IsInner) q fs.1.0)).0 in
+          let here : State = through L L.start (entries a) in
+          let one = steady_fallen here (home (delegates c.sentence.kind) l.id) outside l b c (item_marks t ++ end_marks o)
+          laws c.id c.sentence f fs.1.0 front rc rc in
+          let two = subst (Sub here (focus_marks (zone l (fall true f) (set (λ u. false) c) t o)))
+          (sym (append_assoc (marks_of (block l b c)) (item_marks t) (end_marks o)))
+          (subst (λ z. Sub here z (marks_of (block l b c) ++ (item_marks t ++ end_marks o)))
+          (sym (zone_parts l (fall true f) (set (λ u. false) c) t o)) one) in
+          let three = from_items a (block l b c ∷ t) (focus_marks (zone l (fall true f) (set (λ u. false) c) t o)) (end_marks o) two in
+          with_items a (block l b c ∷ t) e (reopen a l f c t o d)
+          (subst (λ z. Sub L.start (item_marks a ++ focus_marks (zone l (fall true f) (set (λ u. false) c) t o))
+          (item_marks (a ++ (block l b c ∷ t)) ++ focus_marks z)) (sym g) three)
 
-    steady_reenter : (g : Focus) → d.focus ≡ g → (a t : List Item) (l : Entry) (b f k : List Entry) (c : Entry)
-        → d.items ≡ a ++ (block l b c ∷ t) → b ≡ f ++ k → Steady L d (reenter g a l f c t d)
-    steady_reenter (last o) g a t l b f k c e q = go (reopens c.sentence.kind) refl
-      where
-        go : (r : Bool) → reopens c.sentence.kind ≡ r → Steady L d (if r then reopen a l f c t o d else unclose a l f c d)
-        go true h = steady_reopen a t l b f k c o e q h g
-        go false h = steady_unclose a t l b f k c e q
-    steady_reenter (zone m y x u o) g a t l b f k c e q = steady_unclose a t l b f k c e q
+      steady_reenter : (g : Focus) → d.focus ≡ g → Steady L d (reenter g a l f c t d)
+      steady_reenter (last o) g = go (reopens c.sentence.kind) refl
+        where
+          go : (r : Bool) → reopens c.sentence.kind ≡ r → Steady L d (if r then reopen a l f c t o d else unclose a l f c d)
+          go true h = steady_reopen o h g
+          go false h = steady_unclose
+      steady_reenter (zone m y x u o) g = steady_unclose
 
     front_only : (u : State) (b f k : List Entry) → b ≡ f ++ k → Sub u (map (mark outside) f) (map (mark outside) b)
     front_only u b f k q = subst (Sub u (map (mark outside) f)) (append-nil (map (mark outside) b)) (fallen_front u b f k outside q [])
@@ -443,7 +441,7 @@ module _ {State : Type 0} (L : Check State) where
     steady_shorten (zone l b c t o) g f e k q =
         let fs : FormedFocus (zone l b c t o) = subst FormedFocus g s.focus in
         let front : Every IsInner f = (every_parts IsInner f (e ∷ k) (subst (Every IsInner) q fs.0)).0 in
-        let one = before_tail at outside outside l b f c (set (λ u. false) c) (item_marks t ++ end_marks o)
+        let one = before_tail at outside outside l b c (item_marks t ++ end_marks o) f (set (λ u. false) c)
         (behind_same L laws at l f b (set (λ u. false) c) c front fs.0 fs.1.0 fs.1.0)
         (untold_closer (leaves L at l.id l.sentence) outside (map (mark outside) f) (map (mark outside) b) c.id c.sentence
         (mark outside c ∷ [])
@@ -460,7 +458,7 @@ module _ {State : Type 0} (L : Check State) where
     steady_remove : (x : Seat) → IsSeat d.items d.focus x → IfChanged (Steady L d) (remove_at x d)
     steady_remove (among (at_lone a e t)) h = steady_only a (lone e ∷ t) h
     steady_remove (among (at_lemma a l b c t)) h = steady_only a (block l b c ∷ t) h
-    steady_remove (among (at_inner a l f e k c t)) h = steady_reenter d.focus refl a t l (f ++ (e ∷ k)) f (e ∷ k) c h refl
+    steady_remove (among (at_inner a l f e k c t)) h = steady_reenter a t l (f ++ (e ∷ k)) f (e ∷ k) c h refl d.focus refl
     steady_remove (among (at_closer a l b c t)) h = steady_unclose a t l b b [] c h (same_parts b)
     steady_remove (among missing) h = tt
     steady_remove (open_lemma l b) h = steady_only d.items [] (sym (append-nil d.items))
@@ -470,11 +468,19 @@ module _ {State : Type 0} (L : Check State) where
 
 -- ---- Add and Cancel
 
-add_step_steady : {State : Type 0} (L : Check State) (tag : List ℕ) (p q : ℕ) (d : Document) (e : Tried) (more : Document → Ran)
-    → IfAdded (Grows L d) e → IfAdded (Steady L d) e
-    → ((d : Document) → Sound d → Steady L d (more d).document) → Steady L d (add_step tag p q d e more).document
-add_step_steady L tag p q d (refused r) more g h k = λ t m. m
-add_step_steady L tag p q d (added e i t) more g h k = λ u m. h u (k e g.sound u m)
+module _ {State : Type 0} (L : Check State) (tag : List ℕ) where
+  add_step_steady : (p q : ℕ) (d : Document) (e : Tried) (more : Document → Ran)
+      → IfAdded (Grows L d) e → IfAdded (Steady L d) e
+      → ((d : Document) → Sound d → Steady L d (more d).document) → Steady L d (add_step tag p q d e more).document
+  add_step_steady p q d (refused r) more g h k = λ t m. m
+  add_step_steady p q d (added e i t) more g h k = λ u m. h u (k e g.sound u m)
+
+  cancel_step_steady : (i : ℕ) (d : Document) (e : Edited) (more : Document → Removed)
+      → Sound d → IfChanged (Keeps L d) e → IfChanged (Steady L d) e
+      → ((d : Document) → Sound d → Steady L d (more d).document) → Steady L d (cancel_step tag i d e more).document
+  cancel_step_steady i d unknown more s g h k = k d s
+  cancel_step_steady i d (refused_by x) more s g h k = λ t m. m
+  cancel_step_steady i d (changed e) more s g h k = λ t m. h t (k e g.sound t m)
 
 pub add_all_steady : {State : Type 0} (L : Check State) → Laws L → (tag : List ℕ) (ps : List Piece) (d : Document) → Sound d
     → Steady L d (add_all tag ps d).document
@@ -482,13 +488,6 @@ add_all_steady L laws tag [] d s = λ t m. m
 add_all_steady L laws tag (unread p ∷ ps) d s = λ t m. m
 add_all_steady L laws tag (piece p q x ∷ ps) d s = add_step_steady L tag p q d (attempt d p x) (add_all tag ps)
     (attempt_grows L laws d p x s) (steady_at L laws d s p x x.kind d.focus refl refl) (add_all_steady L laws tag ps)
-
-cancel_step_steady : {State : Type 0} (L : Check State) (tag : List ℕ) (i : ℕ) (d : Document) (e : Edited) (more : Document → Removed)
-    → Sound d → IfChanged (Keeps L d) e → IfChanged (Steady L d) e
-    → ((d : Document) → Sound d → Steady L d (more d).document) → Steady L d (cancel_step tag i d e more).document
-cancel_step_steady L tag i d unknown more s g h k = k d s
-cancel_step_steady L tag i d (refused_by x) more s g h k = λ t m. m
-cancel_step_steady L tag i d (changed e) more s g h k = λ t m. h t (k e g.sound t m)
 
 pub cancel_all_steady : {State : Type 0} (L : Check State) → Laws L → (tag : List ℕ) (is : List ℕ) (d : Document) → Sound d
     → Steady L d (cancel_all tag is d).document

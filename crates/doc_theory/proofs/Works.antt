@@ -67,35 +67,34 @@ pub through_inner : {State : Type 0} (L : Check State) → Laws L → (s : State
 through_inner L laws s [] k h = refl
 through_inner L laws s (e ∷ b) k h = through_inner L laws (leaves L s e.id e.sentence) b k h.1 ∙ laws.inside s e.id e.sentence k h.0
 
-pub through_block : {State : Type 0} (L : Check State) → Laws L → (s : State) (l : Entry) (b : List Entry) (c : Entry) (k : Closer)
-    → Every IsInner b
-    → c.sentence.kind ≡ close k → delegates (close k) ≡ true → through L s (l ∷ (b ++ (c ∷ []))) ≡ L.skip (leaves L s l.id l.sentence) k
-through_block L laws s l b c k h e d =
-    through_join L (leaves L s l.id l.sentence) b (c ∷ [])
-    ∙ laws.closing (through L (leaves L s l.id l.sentence) b) c.id c.sentence k e d
-    ∙ through_inner L laws (leaves L s l.id l.sentence) b k h
+-- a block with this lemma
+module _ {State : Type 0} (L : Check State) (laws : Laws L) (s : State) (l : Entry) where
+  pub through_block : (b : List Entry) (c : Entry) (k : Closer) → Every IsInner b → c.sentence.kind ≡ close k
+      → delegates (close k) ≡ true → through L s (l ∷ (b ++ (c ∷ []))) ≡ L.skip (leaves L s l.id l.sentence) k
+  through_block b c k h e d =
+      through_join L (leaves L s l.id l.sentence) b (c ∷ [])
+      ∙ laws.closing (through L (leaves L s l.id l.sentence) b) c.id c.sentence k e d
+      ∙ through_inner L laws (leaves L s l.id l.sentence) b k h
 
--- a closer that can be opened again leaves what Qed leaves
-pub through_reopening : {State : Type 0} (L : Check State) → Laws L → (s : State) (l : Entry) (b : List Entry) (c : Entry)
-    → Every IsInner b
-    → reopens c.sentence.kind ≡ true → through L s (l ∷ (b ++ (c ∷ []))) ≡ L.skip (leaves L s l.id l.sentence) qed
-through_reopening L laws s l b c h r = go c.sentence.kind refl r
-  where
-    go : (k : Kind) → c.sentence.kind ≡ k → reopens k ≡ true → through L s (l ∷ (b ++ (c ∷ []))) ≡ L.skip (leaves L s l.id l.sentence) qed
-    go plain e r = no r
-    go begin e r = no r
-    go inner e r = no r
-    go (close qed) e r = through_block L laws s l b c qed h e refl
-    go (close admitted) e r = through_block L laws s l b c admitted h e refl ∙ laws.alike (leaves L s l.id l.sentence)
-    go (close defined) e r = no r
-    go (close abort) e r = no r
+  -- a closer that can be opened again leaves what Qed leaves
+  pub through_reopening : (b : List Entry) (c : Entry) → Every IsInner b
+      → reopens c.sentence.kind ≡ true → through L s (l ∷ (b ++ (c ∷ []))) ≡ L.skip (leaves L s l.id l.sentence) qed
+  through_reopening b c h r = go c.sentence.kind refl r
+    where
+      go : (k : Kind) → c.sentence.kind ≡ k → reopens k ≡ true → through L s (l ∷ (b ++ (c ∷ []))) ≡ L.skip (leaves L s l.id l.sentence) qed
+      go plain e r = no r
+      go begin e r = no r
+      go inner e r = no r
+      go (close qed) e r = through_block b c qed h e refl
+      go (close admitted) e r = through_block b c admitted h e refl ∙ laws.alike (leaves L s l.id l.sentence)
+      go (close defined) e r = no r
+      go (close abort) e r = no r
 
--- so what follows a block that can be opened again doesn't depend on what stands inside
-pub behind_same : {State : Type 0} (L : Check State) → Laws L → (s : State) (l : Entry) (b f : List Entry) (c k : Entry) → Every IsInner b
-    → Every IsInner f
-    → reopens c.sentence.kind ≡ true → reopens k.sentence.kind ≡ true → through L s (l ∷ (b ++ (c ∷ [])))
-    ≡ through L s (l ∷ (f ++ (k ∷ [])))
-behind_same L laws s l b f c k hb hf rc rk = through_reopening L laws s l b c hb rc ∙ sym (through_reopening L laws s l f k hf rk)
+  -- so what follows a block that can be opened again doesn't depend on what stands inside
+  pub behind_same : (b f : List Entry) (c k : Entry) → Every IsInner b → Every IsInner f
+      → reopens c.sentence.kind ≡ true → reopens k.sentence.kind ≡ true
+      → through L s (l ∷ (b ++ (c ∷ []))) ≡ through L s (l ∷ (f ++ (k ∷ [])))
+  behind_same b f c k hb hf rc rk = through_reopening b c hb rc ∙ sym (through_reopening f k hf rk)
 
 -- ---- works
 

@@ -94,27 +94,28 @@ IsSeat i a g (open_inner l f k) = IsOpen g l (f ++ (i ∷ k))
 IsSeat i a g (behind c) = IsKept g c × ((has i (front_of g) ≡ false) × (has i (back_of g) ≡ true))
 IsSeat i a g nowhere = (has i (front_of g) ≡ false) × (has i (back_of g) ≡ false)
 
-in_proof_is : (i : ℕ) (a : List (Item ℕ Closing)) (g : Focus ℕ Closing) (l : ℕ) (b : List ℕ) (other : Seat) → IsOpen g l b
-    → ((x y : List ℕ) → x ≡ y → IsOpen g l x → IsOpen g l y)
-    → (has i (l ∷ b) ≡ false → IsSeat i a g other) → IsSeat i a g (in_proof i l b other)
-in_proof_is i a g l b other o f h = go (nat_eq i l) refl (split i b) (split_is i b)
-  where
-    go : (r : Bool) → nat_eq i l ≡ r → (s : Split) → IsSplit i b s → IsSeat i a g (if r then open_lemma l b else in_inside l s other)
-    go true e s k = (o, test_equal i l e)
-    go false e (found p q) k = f b (p ++ (i ∷ q)) k o
-    go false e unfound k = h ((λ j. e j || k j))
+module _ (i : ℕ) (a : List (Item ℕ Closing)) where
+  in_proof_is : (g : Focus ℕ Closing) (l : ℕ) (b : List ℕ) (other : Seat) → IsOpen g l b
+      → ((x y : List ℕ) → x ≡ y → IsOpen g l x → IsOpen g l y)
+      → (has i (l ∷ b) ≡ false → IsSeat i a g other) → IsSeat i a g (in_proof i l b other)
+  in_proof_is g l b other o f h = go (nat_eq i l) refl (split i b) (split_is i b)
+    where
+      go : (r : Bool) → nat_eq i l ≡ r → (s : Split) → IsSplit i b s → IsSeat i a g (if r then open_lemma l b else in_inside l s other)
+      go true e s k = (o, test_equal i l e)
+      go false e (found p q) k = f b (p ++ (i ∷ q)) k o
+      go false e unfound k = h ((λ j. e j || k j))
 
-in_focus_is : (i : ℕ) (a : List (Item ℕ Closing)) (g : Focus ℕ Closing) → IsSeat i a g (in_focus i g)
-in_focus_is i a (last closed) = (refl, refl)
-in_focus_is i a (last (proof l b)) = in_proof_is i a (last (proof l b)) l b nowhere (refl, refl) (λ x y e o. (o.0, o.1 ∙ e))
-    (λ n. (n, refl))
-in_focus_is i a (zone l b c t o) = in_proof_is i a (zone l b c t o) l b (in_tail i c t o) (refl, refl)
-    (λ x y e o. (o.0, o.1 ∙ e)) (λ n. go n (has i (c.id ∷ (items_ids t ++ end_ids o))) refl)
-  where
-    go : has i (l ∷ b) ≡ false → (r : Bool) → has i (c.id ∷ (items_ids t ++ end_ids o)) ≡ r
-        → IsSeat i a (zone l b c t o) (if r then behind c.id else nowhere)
-    go n true e = (refl, (n, e))
-    go n false e = (n, e)
+  in_focus_is : (g : Focus ℕ Closing) → IsSeat i a g (in_focus i g)
+  in_focus_is (last closed) = (refl, refl)
+  in_focus_is (last (proof l b)) = in_proof_is (last (proof l b)) l b nowhere (refl, refl) (λ x y e o. (o.0, o.1 ∙ e))
+      (λ n. (n, refl))
+  in_focus_is (zone l b c t o) = in_proof_is (zone l b c t o) l b (in_tail i c t o) (refl, refl)
+      (λ x y e o. (o.0, o.1 ∙ e)) (λ n. go n (has i (c.id ∷ (items_ids t ++ end_ids o))) refl)
+    where
+      go : has i (l ∷ b) ≡ false → (r : Bool) → has i (c.id ∷ (items_ids t ++ end_ids o)) ≡ r
+          → IsSeat i a (zone l b c t o) (if r then behind c.id else nowhere)
+      go n true e = (refl, (n, e))
+      go n false e = (n, e)
 
 -- what is found of an id, by its items' parts and by its seat in the focus
 abbrev pub IsSeated : ℕ → Line → Spot → Seat → Type 0

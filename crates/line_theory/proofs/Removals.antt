@@ -20,7 +20,7 @@ use Rattle.std.proofs.Common.{
   append-nil,
 }
 use Rattle.line_theory.specs.Lists.{has, Distinct, IsCut}
-use Rattle.line_theory.specs.Shapes.{Item, lone, block, closed, proof, Focus, last, zone}
+use Rattle.line_theory.specs.Shapes.{Item, lone, block, End, closed, proof, Focus, last, zone}
 use Rattle.line_theory.specs.Lines.{
   Closing,
   Line,
@@ -147,164 +147,166 @@ drops_items i d h n = (in_front i d (has_left i (items_ids d.items) (front_of d.
     go (last o) = tt
     go (zone l b c t o) = h
 
-among_behind : (i : ℕ) (d : Line) (s : Spot) (f : Focus ℕ Closing) → nat_eq i 1 ≡ false → d.focus ≡ f → locate i d.items ≡ s
-    → IsSpot i d.items s → IsFound s → IsCutBehind i d (edited_among i s d f)
-among_behind i d s (last o) n e q h k = go (takes_zone s) refl
-  where
-    go : (t : Bool) → takes_zone s ≡ t → IsCutBehind i d (if t then zoned i d else dropped i d)
-    go true r = zoned_behind i d (subst (λ f. OpensIn i d.items f) (sym e) (subst OpensAt (sym q) (opens_at s r)))
-    go false r = (dropped_behind i d n (drops_items i d (spot_has i d.items s h k))).0
-among_behind i d s (zone l b c t o) n e q h k = (dropped_behind i d n (drops_items i d (spot_has i d.items s h k))).0
+module _ (i : ℕ) (d : Line) (n : nat_eq i 1 ≡ false) where
+  among_behind : (s : Spot) (f : Focus ℕ Closing) → d.focus ≡ f → locate i d.items ≡ s
+      → IsSpot i d.items s → IsFound s → IsCutBehind i d (edited_among i s d f)
+  among_behind s (last o) e q h k = go (takes_zone s) refl
+    where
+      go : (t : Bool) → takes_zone s ≡ t → IsCutBehind i d (if t then zoned i d else dropped i d)
+      go true r = zoned_behind i d (subst (λ f. OpensIn i d.items f) (sym e) (subst OpensAt (sym q) (opens_at s r)))
+      go false r = (dropped_behind i d n (drops_items i d (spot_has i d.items s h k))).0
+  among_behind s (zone l b c t o) e q h k = (dropped_behind i d n (drops_items i d (spot_has i d.items s h k))).0
 
-open_behind : (i : ℕ) (d : Line) (f : Focus ℕ Closing) (l : ℕ) (b : List ℕ) → nat_eq i 1 ≡ false → d.focus ≡ f → IsOpen f l b
-    → has i (l ∷ b) ≡ true → IsCutBehind i d (edited_open i d f)
-open_behind i d (last closed) l b n e o h = absurd o
-open_behind i d (last (proof m g)) l b n e o h = (dropped_behind i d n (λ k. (
-  in_front i d (has_right i (items_ids d.items) (front_of d.focus) (ap (λ z. has i (front_of z)) e ∙
-      open_has i l b (last (proof m g)) o h)),
-  subst (λ z. DropsIn i d.items z) (sym e) tt,
-))).0
-open_behind i d (zone m g c t x) l b n e o h =
-    zoned_behind i d (subst (λ f. OpensIn i d.items f) (sym e) (open_has i l b (zone m g c t x) o h))
+  open_behind : (f : Focus ℕ Closing) (l : ℕ) (b : List ℕ) → d.focus ≡ f → IsOpen f l b → has i (l ∷ b) ≡ true
+      → IsCutBehind i d (edited_open i d f)
+  open_behind (last closed) l b e o h = absurd o
+  open_behind (last (proof m g)) l b e o h = (dropped_behind i d n (λ k. (
+    in_front i d (has_right i (items_ids d.items) (front_of d.focus) (ap (λ z. has i (front_of z)) e ∙
+        open_has i l b (last (proof m g)) o h)),
+    subst (λ z. DropsIn i d.items z) (sym e) tt,
+  ))).0
+  open_behind (zone m g c t x) l b e o h =
+      zoned_behind i d (subst (λ f. OpensIn i d.items f) (sym e) (open_has i l b (zone m g c t x) o h))
 
-seat_behind : (i : ℕ) (d : Line) (x : Seat) → nat_eq i 1 ≡ false → IsSeat i d.items d.focus x
-    → IfChanged (IsCutBehind i d) (edited_at i x d)
-seat_behind i d (among s) n h = absurd h
-seat_behind i d (open_lemma l b) n h = open_behind i d d.focus l b n refl h.0 (left_true (nat_eq i l) (has i b)
-    (ap (λ z. nat_eq i z) (sym h.1) ∙ test_same i))
-seat_behind i d (open_inner l g k) n h = open_behind i d d.focus l (g ++ (i ∷ k)) n refl h (has_within i l g k)
-seat_behind i d (behind c) n h = tt
-seat_behind i d nowhere n h = tt
+  seat_behind : (x : Seat) → IsSeat i d.items d.focus x → IfChanged (IsCutBehind i d) (edited_at i x d)
+  seat_behind (among s) h = absurd h
+  seat_behind (open_lemma l b) h = open_behind d.focus l b refl h.0 (left_true (nat_eq i l) (has i b)
+      (ap (λ z. nat_eq i z) (sym h.1) ∙ test_same i))
+  seat_behind (open_inner l g k) h = open_behind d.focus l (g ++ (i ∷ k)) refl h (has_within i l g k)
+  seat_behind (behind c) h = tt
+  seat_behind nowhere h = tt
 
-pub edited_behind : (i : ℕ) (d : Line) → nat_eq i 1 ≡ false → IfChanged (IsCutBehind i d) (edited i d)
-edited_behind i d n = go (nat_eq i 1) n
-  where
-    at : (s : Spot) → locate i d.items ≡ s → IsSeated i d s (in_focus i d.focus)
-        → IfChanged (IsCutBehind i d) (edited_at i (seat_or s (in_focus i d.focus)) d)
-    at (at_lone a t) e h = among_behind i d (at_lone a t) d.focus n refl e h tt
-    at (at_lemma a b c t) e h = among_behind i d (at_lemma a b c t) d.focus n refl e h tt
-    at (at_inner a l f k c t) e h = among_behind i d (at_inner a l f k c t) d.focus n refl e h tt
-    at (at_closer a l b c t) e h = among_behind i d (at_closer a l b c t) d.focus n refl e h tt
-    at missing e h = seat_behind i d (in_focus i d.focus) n h.1
+  pub edited_behind : IfChanged (IsCutBehind i d) (edited i d)
+  edited_behind = go (nat_eq i 1) n
+    where
+      at : (s : Spot) → locate i d.items ≡ s → IsSeated i d s (in_focus i d.focus)
+          → IfChanged (IsCutBehind i d) (edited_at i (seat_or s (in_focus i d.focus)) d)
+      at (at_lone a t) e h = among_behind (at_lone a t) d.focus refl e h tt
+      at (at_lemma a b c t) e h = among_behind (at_lemma a b c t) d.focus refl e h tt
+      at (at_inner a l f k c t) e h = among_behind (at_inner a l f k c t) d.focus refl e h tt
+      at (at_closer a l b c t) e h = among_behind (at_closer a l b c t) d.focus refl e h tt
+      at missing e h = seat_behind (in_focus i d.focus) h.1
 
-    go : (t : Bool) → t ≡ false → IfChanged (IsCutBehind i d) (if t then changed empty else edited_at i (seat i d) d)
-    go true e = no (sym e)
-    go false e = at (locate i d.items) refl (seated_is i d)
+      go : (t : Bool) → t ≡ false → IfChanged (IsCutBehind i d) (if t then changed empty else edited_at i (seat i d) d)
+      go true e = no (sym e)
+      go false e = at (locate i d.items) refl (seated_is i d)
 
 -- ---- removal
 
-reentered_from : (i : ℕ) (d : Line) (g : Focus ℕ Closing) → d.focus ≡ g
-    → (a t : List (Item ℕ Closing)) (l : ℕ) (f k : List ℕ) (c : Closing) → d.items ≡ a ++ (block l (f ++ (i ∷ k)) c ∷ t)
-    → IsCutFrom i d (reentered g a l f c t)
-reentered_from i d (last o) e a t l f k c h = go c.opaque
-  where
-    go : (r : Bool) → IsCutFrom i d (if r then line_of a (zone l f c t o) else line_of a (last (proof l f)))
-    go true = record {
-      before = items_ids a ++ (l ∷ f);
-      gone = k;
-      was = around d a t (block l (f ++ (i ∷ k)) c) h
-          ∙ ap (λ z. (items_ids a ++ ((l ∷ ((f ++ (i ∷ k)) ++ (c.id ∷ []))) ++ items_ids t)) ++ (front_of z ++ back_of z)) e
-          ∙ ap (λ z. (items_ids a ++ ((l ∷ ((f ++ (i ∷ k)) ++ (c.id ∷ []))) ++ items_ids t)) ++ z) (append-nil (end_ids o))
-          ∙ zone_inner (items_ids a) f k (items_ids t) (end_ids o) l i c.id;
-      front = refl;
-    }
-    go false = record {
-      before = items_ids a ++ (l ∷ f);
-      gone = k ++ (c.id ∷ (items_ids t ++ (front_of d.focus ++ back_of d.focus)));
-      was = around d a t (block l (f ++ (i ∷ k)) c) h
-          ∙ behind_inner (items_ids a) f k (items_ids t) (front_of d.focus ++ back_of d.focus) l i c.id;
-      front = refl;
-    }
-reentered_from i d (zone m b x u o) e a t l f k c h = record {
-  before = items_ids a ++ (l ∷ f);
-  gone = k ++ (c.id ∷ (items_ids t ++ (front_of d.focus ++ back_of d.focus)));
-  was = around d a t (block l (f ++ (i ∷ k)) c) h
-      ∙ behind_inner (items_ids a) f k (items_ids t) (front_of d.focus ++ back_of d.focus) l i c.id;
-  front = refl;
-}
+module _ (i : ℕ) (d : Line) where
+  -- the front of a block stays
+  reentered_from : (a t : List (Item ℕ Closing)) (l : ℕ) (f k : List ℕ) (c : Closing) → d.items ≡ a ++ (block l (f ++ (i ∷ k)) c ∷ t)
+      → IsCutFrom i d (reentered d.focus a l f c t)
+  reentered_from a t l f k c h = at d.focus refl
+    where
+      left : IsCutFrom i d (line_of a (last (proof l f)))
+      left = record {
+        before = items_ids a ++ (l ∷ f);
+        gone = k ++ (c.id ∷ (items_ids t ++ (front_of d.focus ++ back_of d.focus)));
+        was = around d a t (block l (f ++ (i ∷ k)) c) h
+            ∙ behind_inner (items_ids a) f k (items_ids t) (front_of d.focus ++ back_of d.focus) l i c.id;
+        front = refl;
+      }
 
-open_from : (i : ℕ) (d : Line) (g : Focus ℕ Closing) → d.focus ≡ g → (l : ℕ) (b : List ℕ) → IsOpen g l b → i ≡ l
-    → IsCutFrom i d (line_of d.items (last closed))
-open_from i d (last closed) e l b o q = absurd o
-open_from i d (last (proof m f)) e l b o q = record {
-  before = items_ids d.items;
-  gone = f;
-  was = ap (λ z. (items_ids d.items ++ front_of z) ++ back_of z) e ∙ open_lemma_part (items_ids d.items) f [] m
-      ∙ ap (λ z. items_ids d.items ++ (z ∷ (f ++ []))) (o.0 ∙ sym q);
-  front = append-nil (items_ids d.items);
-}
-open_from i d (zone m f c t x) e l b o q = record {
-  before = items_ids d.items;
-  gone = f ++ (c.id ∷ (items_ids t ++ end_ids x));
-  was = ap (λ z. (items_ids d.items ++ front_of z) ++ back_of z) e
-      ∙ open_lemma_part (items_ids d.items) f (c.id ∷ (items_ids t ++ end_ids x)) m
-      ∙ ap (λ z. items_ids d.items ++ (z ∷ (f ++ (c.id ∷ (items_ids t ++ end_ids x))))) (o.0 ∙ sym q)
-      ∙ ap (λ z. items_ids d.items ++ (i ∷ z)) (sym (append-nil (f ++ (c.id ∷ (items_ids t ++ end_ids x)))));
-  front = append-nil (items_ids d.items);
-}
+      go : (o : End ℕ) → d.focus ≡ last o → (r : Bool)
+          → IsCutFrom i d (if r then line_of a (zone l f c t o) else line_of a (last (proof l f)))
+      go o e true = record {
+        before = items_ids a ++ (l ∷ f);
+        gone = k;
+        was = around d a t (block l (f ++ (i ∷ k)) c) h
+            ∙ ap (λ z. (items_ids a ++ ((l ∷ ((f ++ (i ∷ k)) ++ (c.id ∷ []))) ++ items_ids t)) ++ (front_of z ++ back_of z)) e
+            ∙ ap (λ z. (items_ids a ++ ((l ∷ ((f ++ (i ∷ k)) ++ (c.id ∷ []))) ++ items_ids t)) ++ z) (append-nil (end_ids o))
+            ∙ zone_inner (items_ids a) f k (items_ids t) (end_ids o) l i c.id;
+        front = refl;
+      }
+      go o e false = left
 
-shortened_from : (i : ℕ) (d : Line) (g : Focus ℕ Closing) → d.focus ≡ g → (l : ℕ) (f k : List ℕ) → IsOpen g l (f ++ (i ∷ k))
-    → IsCutFrom i d (line_of d.items (shortened g f))
-shortened_from i d (last closed) e l f k o = absurd o
-shortened_from i d (last (proof m b)) e l f k o = record {
-  before = items_ids d.items ++ (m ∷ f);
-  gone = k;
-  was = ap (λ z. (items_ids d.items ++ front_of z) ++ back_of z) e ∙ ap (λ z. (items_ids d.items ++ (m ∷ z)) ++ []) o.1
-      ∙ open_inner_part (items_ids d.items) f k [] m i;
-  front = refl;
-}
-shortened_from i d (zone m b c t x) e l f k o = record {
-  before = items_ids d.items ++ (m ∷ f);
-  gone = k;
-  was = ap (λ z. (items_ids d.items ++ front_of z) ++ back_of z) e
-      ∙ ap (λ z. (items_ids d.items ++ (m ∷ z)) ++ (c.id ∷ (items_ids t ++ end_ids x))) o.1
-      ∙ open_inner_part (items_ids d.items) f k (c.id ∷ (items_ids t ++ end_ids x)) m i;
-  front = refl;
-}
+      at : (g : Focus ℕ Closing) → d.focus ≡ g → IsCutFrom i d (reentered g a l f c t)
+      at (last o) e = go o e c.opaque
+      at (zone m b x u o) e = left
 
-seat_from : (i : ℕ) (d : Line) (x : Seat) → IsSeat i d.items d.focus x → IfChanged (IsCutFrom i d) (removed_at x d)
-seat_from i d (among s) h = absurd h
-seat_from i d (open_lemma l b) h = open_from i d d.focus refl l b h.0 h.1
-seat_from i d (open_inner l f k) h = shortened_from i d d.focus refl l f k h
-seat_from i d (behind c) h = tt
-seat_from i d nowhere h = tt
+  open_from : (g : Focus ℕ Closing) → d.focus ≡ g → (l : ℕ) (b : List ℕ) → IsOpen g l b → i ≡ l
+      → IsCutFrom i d (line_of d.items (last closed))
+  open_from (last closed) e l b o q = absurd o
+  open_from (last (proof m f)) e l b o q = record {
+    before = items_ids d.items;
+    gone = f;
+    was = ap (λ z. (items_ids d.items ++ front_of z) ++ back_of z) e ∙ open_lemma_part (items_ids d.items) f [] m
+        ∙ ap (λ z. items_ids d.items ++ (z ∷ (f ++ []))) (o.0 ∙ sym q);
+    front = append-nil (items_ids d.items);
+  }
+  open_from (zone m f c t x) e l b o q = record {
+    before = items_ids d.items;
+    gone = f ++ (c.id ∷ (items_ids t ++ end_ids x));
+    was = ap (λ z. (items_ids d.items ++ front_of z) ++ back_of z) e
+        ∙ open_lemma_part (items_ids d.items) f (c.id ∷ (items_ids t ++ end_ids x)) m
+        ∙ ap (λ z. items_ids d.items ++ (z ∷ (f ++ (c.id ∷ (items_ids t ++ end_ids x))))) (o.0 ∙ sym q)
+        ∙ ap (λ z. items_ids d.items ++ (i ∷ z)) (sym (append-nil (f ++ (c.id ∷ (items_ids t ++ end_ids x)))));
+    front = append-nil (items_ids d.items);
+  }
 
-pub removed_from : (i : ℕ) (d : Line) → IfChanged (IsCutFrom i d) (removed i d)
-removed_from i d = at (locate i d.items) (seated_is i d)
-  where
-    lone_from : (a t : List (Item ℕ Closing)) → d.items ≡ a ++ (lone i ∷ t) → IsCutFrom i d (line_of a (last closed))
-    lone_from a t h = record {
-      before = items_ids a;
-      gone = items_ids t ++ (front_of d.focus ++ back_of d.focus);
-      was = around d a t (lone i) h ∙ behind_lone (items_ids a) (items_ids t) (front_of d.focus ++ back_of d.focus) i;
-      front = append-nil (items_ids a);
-    }
+  shortened_from : (g : Focus ℕ Closing) → d.focus ≡ g → (l : ℕ) (f k : List ℕ) → IsOpen g l (f ++ (i ∷ k))
+      → IsCutFrom i d (line_of d.items (shortened g f))
+  shortened_from (last closed) e l f k o = absurd o
+  shortened_from (last (proof m b)) e l f k o = record {
+    before = items_ids d.items ++ (m ∷ f);
+    gone = k;
+    was = ap (λ z. (items_ids d.items ++ front_of z) ++ back_of z) e ∙ ap (λ z. (items_ids d.items ++ (m ∷ z)) ++ []) o.1
+        ∙ open_inner_part (items_ids d.items) f k [] m i;
+    front = refl;
+  }
+  shortened_from (zone m b c t x) e l f k o = record {
+    before = items_ids d.items ++ (m ∷ f);
+    gone = k;
+    was = ap (λ z. (items_ids d.items ++ front_of z) ++ back_of z) e
+        ∙ ap (λ z. (items_ids d.items ++ (m ∷ z)) ++ (c.id ∷ (items_ids t ++ end_ids x))) o.1
+        ∙ open_inner_part (items_ids d.items) f k (c.id ∷ (items_ids t ++ end_ids x)) m i;
+    front = refl;
+  }
 
-    lemma_from : (a t : List (Item ℕ Closing)) (b : List ℕ) (c : Closing) → d.items ≡ a ++ (block i b c ∷ t)
-        → IsCutFrom i d (line_of a (last closed))
-    lemma_from a t b c h = record {
-      before = items_ids a;
-      gone = b ++ (c.id ∷ (items_ids t ++ (front_of d.focus ++ back_of d.focus)));
-      was = around d a t (block i b c) h ∙ behind_lemma (items_ids a) b (items_ids t) (front_of d.focus ++ back_of d.focus) i c.id;
-      front = append-nil (items_ids a);
-    }
+  seat_from : (x : Seat) → IsSeat i d.items d.focus x → IfChanged (IsCutFrom i d) (removed_at x d)
+  seat_from (among s) h = absurd h
+  seat_from (open_lemma l b) h = open_from d.focus refl l b h.0 h.1
+  seat_from (open_inner l f k) h = shortened_from d.focus refl l f k h
+  seat_from (behind c) h = tt
+  seat_from nowhere h = tt
 
-    closer_from : (a t : List (Item ℕ Closing)) (l : ℕ) (b : List ℕ) (c : Closing) → d.items ≡ a ++ (block l b c ∷ t) → i ≡ c.id
-        → IsCutFrom i d (line_of a (last (proof l b)))
-    closer_from a t l b c h e = record {
-      before = items_ids a ++ (l ∷ b);
-      gone = items_ids t ++ (front_of d.focus ++ back_of d.focus);
-      was = around d a t (block l b c) h ∙ behind_closer (items_ids a) b (items_ids t) (front_of d.focus ++ back_of d.focus) l c.id
-          ∙ ap (λ z. (items_ids a ++ (l ∷ b)) ++ (z ∷ ((items_ids t ++ (front_of d.focus ++ back_of d.focus)) ++ []))) (sym e);
-      front = refl;
-    }
+  pub removed_from : IfChanged (IsCutFrom i d) (removed i d)
+  removed_from = at (locate i d.items) (seated_is i d)
+    where
+      lone_from : (a t : List (Item ℕ Closing)) → d.items ≡ a ++ (lone i ∷ t) → IsCutFrom i d (line_of a (last closed))
+      lone_from a t h = record {
+        before = items_ids a;
+        gone = items_ids t ++ (front_of d.focus ++ back_of d.focus);
+        was = around d a t (lone i) h ∙ behind_lone (items_ids a) (items_ids t) (front_of d.focus ++ back_of d.focus) i;
+        front = append-nil (items_ids a);
+      }
 
-    at : (s : Spot) → IsSeated i d s (in_focus i d.focus) → IfChanged (IsCutFrom i d) (removed_at (seat_or s (in_focus i d.focus)) d)
-    at (at_lone a t) h = lone_from a t h
-    at (at_lemma a b c t) h = lemma_from a t b c h
-    at (at_inner a l f k c t) h = reentered_from i d d.focus refl a t l f k c h
-    at (at_closer a l b c t) h = closer_from a t l b c h.0 h.1
-    at missing h = seat_from i d (in_focus i d.focus) h.1
+      lemma_from : (a t : List (Item ℕ Closing)) (b : List ℕ) (c : Closing) → d.items ≡ a ++ (block i b c ∷ t)
+          → IsCutFrom i d (line_of a (last closed))
+      lemma_from a t b c h = record {
+        before = items_ids a;
+        gone = b ++ (c.id ∷ (items_ids t ++ (front_of d.focus ++ back_of d.focus)));
+        was = around d a t (block i b c) h ∙ behind_lemma (items_ids a) b (items_ids t) (front_of d.focus ++ back_of d.focus) i c.id;
+        front = append-nil (items_ids a);
+      }
+
+      closer_from : (a t : List (Item ℕ Closing)) (l : ℕ) (b : List ℕ) (c : Closing) → d.items ≡ a ++ (block l b c ∷ t) → i ≡ c.id
+          → IsCutFrom i d (line_of a (last (proof l b)))
+      closer_from a t l b c h e = record {
+        before = items_ids a ++ (l ∷ b);
+        gone = items_ids t ++ (front_of d.focus ++ back_of d.focus);
+        was = around d a t (block l b c) h ∙ behind_closer (items_ids a) b (items_ids t) (front_of d.focus ++ back_of d.focus) l c.id
+            ∙ ap (λ z. (items_ids a ++ (l ∷ b)) ++ (z ∷ ((items_ids t ++ (front_of d.focus ++ back_of d.focus)) ++ []))) (sym e);
+        front = refl;
+      }
+
+      at : (s : Spot) → IsSeated i d s (in_focus i d.focus) → IfChanged (IsCutFrom i d) (removed_at (seat_or s (in_focus i d.focus)) d)
+      at (at_lone a t) h = lone_from a t h
+      at (at_lemma a b c t) h = lemma_from a t b c h
+      at (at_inner a l f k c t) h = reentered_from a t l f k c h
+      at (at_closer a l b c t) h = closer_from a t l b c h.0 h.1
+      at missing h = seat_from (in_focus i d.focus) h.1
 
 -- ---- a cut from an id is one piece that goes
 

@@ -284,62 +284,63 @@ dropped_behind i d o h = go (nat_eq i 1) o
 
 -- ---- what stands between an id and a closer goes
 
--- where no zone is open yet
-zone_opened : (i : ℕ) (d : Line) (o : End ℕ) → d.focus ≡ last o → (s : Spot) → IsSpot i d.items s → OpensAt s
-    → IsCutBehind i d (zoned_at i s d o)
-zone_opened i d o e (at_lone a t) h k = absurd k
-zone_opened i d o e (at_closer a l b c t) h k = absurd k
-zone_opened i d o e missing h k = absurd k
-zone_opened i d o e (at_lemma a b c t) h k = record {
-  before = items_ids a;
-  gone = b;
-  was = around d a t (block i b c) h ∙ ap (λ z. (items_ids a ++ ((i ∷ (b ++ (c.id ∷ []))) ++ items_ids t)) ++ (front_of z ++ back_of z)) e
-      ∙ ap (λ z. (items_ids a ++ ((i ∷ (b ++ (c.id ∷ []))) ++ items_ids t)) ++ z) (append-nil (end_ids o))
-      ∙ zone_lemma (items_ids a) b (items_ids t) (end_ids o) i c.id;
-  front = refl;
-}
-zone_opened i d o e (at_inner a l f x c t) h k = record {
-  before = items_ids a ++ (l ∷ f);
-  gone = x;
-  was = around d a t (block l (f ++ (i ∷ x)) c) h
-      ∙ ap (λ z. (items_ids a ++ ((l ∷ ((f ++ (i ∷ x)) ++ (c.id ∷ []))) ++ items_ids t)) ++ (front_of z ++ back_of z)) e
-      ∙ ap (λ z. (items_ids a ++ ((l ∷ ((f ++ (i ∷ x)) ++ (c.id ∷ []))) ++ items_ids t)) ++ z) (append-nil (end_ids o))
-      ∙ zone_inner (items_ids a) f x (items_ids t) (end_ids o) l i c.id;
-  front = last_put (items_ids a) f l i;
-}
+module _ (i : ℕ) (d : Line) where
+  -- where no zone is open yet
+  zone_opened : (o : End ℕ) → d.focus ≡ last o → (s : Spot) → IsSpot i d.items s → OpensAt s
+      → IsCutBehind i d (zoned_at i s d o)
+  zone_opened o e (at_lone a t) h k = absurd k
+  zone_opened o e (at_closer a l b c t) h k = absurd k
+  zone_opened o e missing h k = absurd k
+  zone_opened o e (at_lemma a b c t) h k = record {
+    before = items_ids a;
+    gone = b;
+    was = around d a t (block i b c) h ∙ ap (λ z. (items_ids a ++ ((i ∷ (b ++ (c.id ∷ []))) ++ items_ids t)) ++ (front_of z ++ back_of z)) e
+        ∙ ap (λ z. (items_ids a ++ ((i ∷ (b ++ (c.id ∷ []))) ++ items_ids t)) ++ z) (append-nil (end_ids o))
+        ∙ zone_lemma (items_ids a) b (items_ids t) (end_ids o) i c.id;
+    front = refl;
+  }
+  zone_opened o e (at_inner a l f x c t) h k = record {
+    before = items_ids a ++ (l ∷ f);
+    gone = x;
+    was = around d a t (block l (f ++ (i ∷ x)) c) h
+        ∙ ap (λ z. (items_ids a ++ ((l ∷ ((f ++ (i ∷ x)) ++ (c.id ∷ []))) ++ items_ids t)) ++ (front_of z ++ back_of z)) e
+        ∙ ap (λ z. (items_ids a ++ ((l ∷ ((f ++ (i ∷ x)) ++ (c.id ∷ []))) ++ items_ids t)) ++ z) (append-nil (end_ids o))
+        ∙ zone_inner (items_ids a) f x (items_ids t) (end_ids o) l i c.id;
+    front = last_put (items_ids a) f l i;
+  }
 
--- where that zone is open
-zone_again : (i : ℕ) (d : Line) (l : ℕ) (b : List ℕ) (c : Closing) (t : List (Item ℕ Closing)) (o : End ℕ) → d.focus ≡ zone l b c t o
-    → has i (l ∷ b) ≡ true → IsCutBehind i d (zoned_in i d (zone l b c t o))
-zone_again i d l b c t o e h = go (nat_eq i l) refl (split i b) (split_is i b)
-  where
-    whole : ids d ≡ (items_ids d.items ++ (l ∷ b)) ++ (c.id ∷ (items_ids t ++ end_ids o))
-    whole = ap (λ z. (items_ids d.items ++ front_of z) ++ back_of z) e
+  -- where that zone is open
+  zone_again : (l : ℕ) (b : List ℕ) (c : Closing) (t : List (Item ℕ Closing)) (o : End ℕ) → d.focus ≡ zone l b c t o
+      → has i (l ∷ b) ≡ true → IsCutBehind i d (zoned_in i d (zone l b c t o))
+  zone_again l b c t o e h = go (nat_eq i l) refl (split i b) (split_is i b)
+    where
+      whole : ids d ≡ (items_ids d.items ++ (l ∷ b)) ++ (c.id ∷ (items_ids t ++ end_ids o))
+      whole = ap (λ z. (items_ids d.items ++ front_of z) ++ back_of z) e
 
-    go : (r : Bool) → nat_eq i l ≡ r → (s : Split) → IsSplit i b s
-        → IsCutBehind i d (if r then record { items = d.items; focus = zone l [] c t o } else zoned_inside d.items l b c t o i s)
-    go true q s k = record {
-      before = items_ids d.items;
-      gone = b;
-      was = whole ∙ open_lemma_part (items_ids d.items) b (c.id ∷ (items_ids t ++ end_ids o)) l
-          ∙ ap (λ z. items_ids d.items ++ (z ∷ (b ++ (c.id ∷ (items_ids t ++ end_ids o))))) (sym (test_equal i l q));
-      front = ap (λ z. items_ids d.items ++ (z ∷ [])) (sym (test_equal i l q));
-    }
-    go false q (found f x) k = record {
-      before = items_ids d.items ++ (l ∷ f);
-      gone = x;
-      was = whole ∙ ap (λ z. (items_ids d.items ++ (l ∷ z)) ++ (c.id ∷ (items_ids t ++ end_ids o))) k
-          ∙ open_inner_part (items_ids d.items) f x (c.id ∷ (items_ids t ++ end_ids o)) l i;
-      front = last_put (items_ids d.items) f l i;
-    }
-    go false q unfound k = no (sym ((λ j. q j || k j)) ∙ h)
+      go : (r : Bool) → nat_eq i l ≡ r → (s : Split) → IsSplit i b s
+          → IsCutBehind i d (if r then record { items = d.items; focus = zone l [] c t o } else zoned_inside d.items l b c t o i s)
+      go true q s k = record {
+        before = items_ids d.items;
+        gone = b;
+        was = whole ∙ open_lemma_part (items_ids d.items) b (c.id ∷ (items_ids t ++ end_ids o)) l
+            ∙ ap (λ z. items_ids d.items ++ (z ∷ (b ++ (c.id ∷ (items_ids t ++ end_ids o))))) (sym (test_equal i l q));
+        front = ap (λ z. items_ids d.items ++ (z ∷ [])) (sym (test_equal i l q));
+      }
+      go false q (found f x) k = record {
+        before = items_ids d.items ++ (l ∷ f);
+        gone = x;
+        was = whole ∙ ap (λ z. (items_ids d.items ++ (l ∷ z)) ++ (c.id ∷ (items_ids t ++ end_ids o))) k
+            ∙ open_inner_part (items_ids d.items) f x (c.id ∷ (items_ids t ++ end_ids o)) l i;
+        front = last_put (items_ids d.items) f l i;
+      }
+      go false q unfound k = no (sym ((λ j. q j || k j)) ∙ h)
 
-pub zoned_behind : (i : ℕ) (d : Line) → Opens i d → IsCutBehind i d (zoned i d)
-zoned_behind i d h = go d.focus refl h
-  where
-    go : (f : Focus ℕ Closing) → d.focus ≡ f → OpensIn i d.items f → IsCutBehind i d (zoned_in i d f)
-    go (last o) e k = zone_opened i d o e (locate i d.items) (locate_is i d.items) k
-    go (zone l b c t o) e k = zone_again i d l b c t o e k
+  pub zoned_behind : Opens i d → IsCutBehind i d (zoned i d)
+  zoned_behind h = go d.focus refl h
+    where
+      go : (f : Focus ℕ Closing) → d.focus ≡ f → OpensIn i d.items f → IsCutBehind i d (zoned_in i d f)
+      go (last o) e k = zone_opened o e (locate i d.items) (locate_is i d.items) k
+      go (zone l b c t o) e k = zone_again l b c t o e k
 
 -- ---- a cut behind an id is one piece that goes
 
