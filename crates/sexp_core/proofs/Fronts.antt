@@ -1,15 +1,15 @@
 -- How a Reader goes on.
 use Rattle.std.proofs.Common.{◌≡◌, ℕ, ◌+◌, ◌-◌, ◌<◌, ◌≤◌, ◌^◌, zero, suc, List, [], ◌∷◌, ◌++◌, length, drop, Bool, true, false, Some}
-use Rattle.std.proofs.Common.{None, refl, sym, ap, ◌∙◌, subst, arith, add-zero, append_assoc, length-drop, length-append}
+use Rattle.std.proofs.Common.{None, refl, sym, ap, ◌∙◌, subst, arith, add-zero, length-drop}
 use Rattle.std.specs.Prelude.{if◌then◌else◌, Option, option_map}
 use Rattle.std.specs.List.{All}
-use Rattle.std.proofs.lemmas.List.{append-nil, drop_all, drop-drop, drop-append-le}
+use Rattle.std.proofs.lemmas.List.{append-nil, drop_all, drop-drop}
 use Rattle.sexp_theory.specs.Values.{atom, nesting, HasBytes}
 use Rattle.sexp_theory.specs.Written.{IsOfBytes}
 use Rattle.sexp_theory.specs.Places.{Found, nothing, last_run, unfinished, value, most_lists}
 use Rattle.sexp_theory.specs.Machine.{State, start, found_from, at_end, is_outer_run}
 use Rattle.sexp_theory.specs.Items.{Item, Unread, Taken, from_offset, without_gap, first_of, next_item, taken_of, behind_rest_of_line}
-use Rattle.sexp_theory.specs.Items.{fed, value_item, bad_item, end_of, end_up_to, end_of_found}
+use Rattle.sexp_theory.specs.Items.{value_item, bad_item, end_of, end_up_to, end_of_found}
 use Rattle.sexp_theory.specs.declared.input.BadKind.{BadKind}
 use Rattle.sexp_theory.specs.declared.input.InputEnd.TheVariants.{Clean, Truncated}
 use Rattle.sexp_core.specs.Sexp.{meaning}

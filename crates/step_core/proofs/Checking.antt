@@ -1,22 +1,19 @@
 -- One sentence, by what it declares.
-use Rattle.std.proofs.Common.{◌≡◌, ℕ, List, [], ◌∷◌, Result, Ok, Err, refl, sym, ap, ◌∙◌}
+use Rattle.std.proofs.Common.{◌≡◌, ℕ, List, ◌∷◌, Ok, Err, refl, sym, ap, ◌∙◌}
 use Rattle.base_core.specs.Answers.{Answers}
 use Rattle.vern_sentence.specs.Trees.{Sentence, declare, define, begin, proof_word, refinement, bullet, brace_in, brace_out, close}
 use Rattle.vern_parse.specs.declared.raw.Closer.{Closer}
 use Rattle.vern_step.specs.declared.kind.Kind.{Kind}
 use Rattle.vern_step.specs.declared.kind.Kind.TheVariants as kind
 use Rattle.vern_step.specs.Parsed.{kind_of, closing}
-use Rattle.env_theory.specs.Declarations.{Declaration}
 use Rattle.env_core.specs.declared.declaration.Decl.{Decl}
 use Rattle.env_core.specs.Meaning.{declaration, declarations}
-use Rattle.tactic_theory.specs.States.{StepFault}
-use Rattle.script_theory.specs.Sentences.{Script, Verdict, good, one, declared}
+use Rattle.script_theory.specs.Sentences.{good, one, declared}
 use Rattle.step_core.specs.declared.verdict.Fault.{Fault}
 use Rattle.step_core.specs.declared.verdict.Verdict.TheVariants as verdict
-use Rattle.step_core.specs.declared.declare.Refusal.{Refusal}
 use Rattle.step_core.specs.declared.declare.Refusal.TheVariants as refusal
 use Rattle.step_core.specs.Standing.{state_of, declared_by, refused}
-use Rattle.step_core.specs.Verdicts.{fault_of, verdict_of}
+use Rattle.step_core.specs.Verdicts.{verdict_of}
 
 begin_apart : Path Kind kind.Begin kind.Plain → ⊥
 begin_apart e = cc

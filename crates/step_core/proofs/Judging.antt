@@ -1,8 +1,8 @@
 -- What was typed is declared unless it is too large.
-use Rattle.std.proofs.Common.{◌≡◌, ℕ, ◌<◌, ◌^◌, ◌⊎◌, inl, inr, min, List, [], ◌∷◌, map, Option, Some, None, Result, Ok, Err, IfOk}
+use Rattle.std.proofs.Common.{◌≡◌, ℕ, inl, inr, List, ◌∷◌, Option, Some, None, Result, Ok, Err, IfOk}
 use Rattle.std.proofs.Common.{refl, sym, ap, subst, ◌∙◌, arith}
 use Rattle.vern_grammar.specs.Trees.{Name, Group, Expression, Shape}
-use Rattle.base_core.specs.Answers.{Answers, IsRefusal, and_then}
+use Rattle.base_core.specs.Answers.{Answers, IsRefusal}
 use Rattle.env_theory.specs.Declarations.{Declaration, sort, function, predicate, stated, term, formula}
 use Rattle.env_theory.specs.Typing.{Declares, Environment}
 use Rattle.env_core.specs.declared.declaration.Decl.{Decl}
@@ -11,26 +11,14 @@ use Rattle.elab_theory.specs.Faults.{Fault as TypingFault}
 use Rattle.elab_theory.specs.Sentences.{declaration_of, definition_of}
 use Rattle.elab_theory.proofs.Admitted.{declaration_admitted, definition_admitted}
 use Rattle.elab_core.specs.declared.fault.ElabFault.{ElabFault}
-use Rattle.elab_core.specs.declared.fault.ElabFault.TheVariants.{
-  UnknownName,
-  WrongKind,
-  WrongSort,
-  WrongArity,
-  AlreadyDeclared,
-  NotOfForm,
-  TooLarge,
-  NoMemory,
-}
+use Rattle.elab_core.specs.declared.fault.ElabFault.TheVariants.{UnknownName, WrongKind, WrongSort, WrongArity, AlreadyDeclared, NotOfForm, TooLarge, NoMemory}
 use Rattle.elab_core.specs.Answers.{Passes, declared_size}
 use Rattle.elab_core.specs.Answers.{Declares as Types}
 use Rattle.tactic_theory.specs.Faults.{too_large}
 use Rattle.tactic_theory.specs.States.{StepFault, row_fault}
-use Rattle.script_theory.specs.Sizes.{told, measured, large_declaration}
+use Rattle.script_theory.specs.Sizes.{told, large_declaration}
 use Rattle.script_theory.specs.Sentences.{sized}
 use Rattle.script_theory.specs.Sentences as check
-use Rattle.vern_parse.specs.declared.raw.RawName.{RawName}
-use Rattle.vern_parse.specs.Meaning.{name}
-use Rattle.vern_parse.specs.Sentences.{maybe_name}
 use Rattle.step_core.specs.declared.verdict.Fault.TheVariants as fault
 use Rattle.step_core.specs.declared.declare.Refusal.{Refusal}
 use Rattle.step_core.specs.declared.declare.Refusal.TheVariants as refusal

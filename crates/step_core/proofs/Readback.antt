@@ -2,7 +2,7 @@
 use Rattle.std.proofs.Common.{◌≡◌, ℕ, List, [], ◌∷◌, ◌++◌, Option, Some, None, Result, Ok, Err, refl, sym, ap, subst, ◌∙◌, append_assoc}
 use Rattle.std.specs.Prelude.{codes}
 use Rattle.vern_lex.specs.Tokens.{tokens_of}
-use Rattle.vern_grammar.specs.Trees.{Name, Expression, Shape}
+use Rattle.vern_grammar.specs.Trees.{Expression, Shape}
 use Rattle.vern_grammar.specs.Trees as made
 use Rattle.vern_grammar.specs.Kinds.{lexemes}
 use Rattle.vern_grammar.specs.Grammar.{named}
@@ -17,32 +17,16 @@ use Rattle.env_theory.specs.Declarations.{Declaration, sort, function, predicate
 use Rattle.env_theory.specs.Typing.{WellFormed, IsPredicate}
 use Rattle.base_core.specs.Answers.{and_then}
 use Rattle.elab_theory.specs.Faults.{Fault}
-use Rattle.elab_theory.specs.Locals.{Known, bound, assumed, declared, unknown, known, declared_or_not}
+use Rattle.elab_theory.specs.Locals.{known, declared_or_not}
 use Rattle.elab_theory.specs.Expressions.{sort_at, formula_of}
-use Rattle.elab_theory.specs.Sentences.{
-  new_name,
-  sort_part,
-  sorts_before,
-  chain_of,
-  Last,
-  a_predicate,
-  a_function,
-  a_formula,
-  sort_or_not,
-  last_of,
-  shape_by,
-  shape_of,
-  declaration_of,
-  statement_of,
-}
+use Rattle.elab_theory.specs.Sentences.{new_name, sort_part, sorts_before, chain_of, Last, a_predicate, a_function, a_formula, sort_or_not, last_of, shape_by, shape_of}
 use Rattle.print_theory.specs.Spelling.{formula_text}
-use Rattle.print_theory.specs.Trees.{spanless, spanless_name, spanless_shape, terms_tree, formula_tree, formula_shape, word}
+use Rattle.print_theory.specs.Trees.{spanless, spanless_shape, formula_tree, formula_shape, word}
 use Rattle.print_theory.specs.Reading.{IsShown, sentence_of}
 use Rattle.print_theory.specs.Typed.{AreDeclaredApart, IsPlaced}
 use Rattle.print_theory.proofs.Laws.{formula_reads, lemma_begins, axiom_declares}
 use Rattle.print_theory.proofs.Spans.{value, same_ok, then_same, sort_at_same, formula_spanless}
 use Rattle.print_theory.proofs.Typed.{formula_is_typed, formula_stands_apart}
-use Rattle.step_core.specs.Texts.{declaration_text}
 use Rattle.step_core.specs.Back.{sentence_text, ReadsAsLemma, ReadsAsAxiom}
 
 -- ---- shapes: typing sees no spans but in its faults

@@ -1,5 +1,5 @@
 -- What the text of a Stated declaration is read and typed as.
-use Rattle.std.specs.Prelude.{◌≡◌, ℕ, List, [], ◌++◌, codes, Ok}
+use Rattle.std.specs.Prelude.{◌≡◌, ℕ, List, ◌++◌, codes, Ok}
 use Rattle.fol_theory.specs.Syntax.{Formula}
 use Rattle.fol_theory.specs.Printing.{Alike}
 use Rattle.vern_grammar.specs.Trees.{Name, Expression, Shape}

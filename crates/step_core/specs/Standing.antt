@@ -8,7 +8,6 @@ use Rattle.env_theory.specs.Typing.{Declares}
 use Rattle.env_theory.specs.Normal.{normal, normal_term}
 use Rattle.env_core.specs.declared.declaration.Decl.{Decl}
 use Rattle.env_core.specs.Meaning.{declarations, declaration}
-use Rattle.elab_core.specs.declared.fault.ElabFault.{ElabFault}
 use Rattle.base_core.specs.Answers.{and_then}
 use Rattle.elab_theory.specs.Faults.{Fault as TypingFault}
 use Rattle.tactic_theory.specs.States.{StepFault, bad_bullet}

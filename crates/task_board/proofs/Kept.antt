@@ -1,9 +1,9 @@
 -- What a board keeps when one slot changes, or one is added.
-use Rattle.std.proofs.Common.{◌≡◌, ◌≢◌, ℕ, zero, suc, ◌+◌, ◌-◌, ◌^◌, ◌<◌, ◌≤◌, Bool, true, false, not, cond, ◌&&◌, ◌||◌, ◌⊎◌, inl, inr, List, [], ◌∷◌, ◌++◌, length, get_or, set, Option, Some, None, Result, Ok, OnOk, refl, sym, ap, ◌∙◌, subst, arith, eqb, eqb-true, eq-eqb, length-append}
-use Rattle.std.specs.Prelude.{map, find, filter, filter_map, slice_get, nat_eq, option_map, replicate, is_some}
+use Rattle.std.proofs.Common.{◌≡◌, ℕ, zero, suc, ◌+◌, ◌-◌, ◌^◌, ◌<◌, ◌≤◌, Bool, true, false, not, cond, ◌&&◌, ◌||◌, List, [], ◌∷◌, ◌++◌, length, get_or, set, Option, Some, None, Result, Ok, OnOk, refl, sym, ap, ◌∙◌, subst, arith, eqb, eqb-true, eq-eqb, length-append}
+use Rattle.std.specs.Prelude.{map, find, filter_map, slice_get, nat_eq, option_map, replicate, is_some}
 use Rattle.std.proofs.lemmas.List.{length-set, length-replicate}
 use Rattle.std.proofs.lemmas.Option.{get_or_from_slice_get}
-use Rattle.std.specs.List.{AllByRecursion, IsDistinct, list_any}
+use Rattle.std.specs.List.{AllByRecursion, IsDistinct}
 use Rattle.std.specs.HashMap.{HashMap, get, spare}
 use Rattle.std.specs.Map.{lookup}
 use Rattle.task_board.specs.declared.standing.Standing.{Standing}
@@ -11,9 +11,9 @@ use Rattle.task_board.specs.declared.standing.Standing.TheVariants.{Waiting, Hel
 use Rattle.task_board.specs.declared.slot.Slot.{Slot}
 use Rattle.task_board.specs.Places.{nothing, least_number}
 use Rattle.task_board.specs.Rows.{Table, IsTable, Row, moved, claimed, posted, with_rows, least_waiting, least_left, all_done, holder, outcome_of, work_of, result_of, is_done, is_held, stand, stand_at, without_block, has_row, Numbered, is_waiting, is_left}
-use Rattle.task_board.specs.Slots.{row, row_in, rows_of, restood, emptied, Rising, Below, IsAt, Marks, Finds, Changes, IsKept, key, full}
+use Rattle.task_board.specs.Slots.{row, row_in, rows_of, restood, emptied, Rising, Below, IsAt, Marks, Changes, IsKept, key, full}
 use Rattle.task_board.proofs.Full.{rows-full, rising-full, below-full}
-use Rattle.task_board.proofs.Seen.{eqb-same, eqb-apart, stand-here, found-at, not-lost, find-at, passes}
+use Rattle.task_board.proofs.Seen.{eqb-apart, stand-here, found-at, not-lost, find-at, passes}
 use Rattle.task_board.proofs.Marked.{marks-set, marks-push, marks-none, least-number}
 
 some-map : {X Y : Type 0} (f : X → Y) (o : Option X) → is_some (option_map f o) ≡ is_some o

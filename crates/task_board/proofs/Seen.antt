@@ -1,13 +1,11 @@
 -- The rows of slots in the order of their numbers: what is found, and what a change of one slot changes.
-use Rattle.std.proofs.Common.{◌≡◌, ◌≢◌, ℕ, zero, suc, ◌+◌, ◌-◌, ◌<◌, ◌≤◌, Bool, true, false, not, cond, ◌&&◌, ◌||◌, ◌⊎◌, inl, inr, List, [], ◌∷◌, ◌++◌, length, get_or, set, Option, Some, None, refl, sym, ap, ◌∙◌, subst, arith, eqb-true, eq-eqb, eqb}
-use Rattle.std.specs.Prelude.{map, find, filter, filter_map, slice_get, nat_eq, option_map, is_some}
+use Rattle.std.proofs.Common.{◌≡◌, ◌≢◌, ℕ, zero, suc, ◌-◌, ◌<◌, ◌≤◌, Bool, true, false, not, cond, ◌||◌, inl, inr, List, [], ◌∷◌, length, get_or, set, Option, Some, None, refl, sym, ap, ◌∙◌, subst, arith, eqb-true, eq-eqb, eqb}
+use Rattle.std.specs.Prelude.{find, filter_map, slice_get, nat_eq, is_some}
 use Rattle.std.proofs.lemmas.Option.{slice_get-get_or, slice_get_past, slice_get_cases, get_or_from_slice_get}
-use Rattle.std.specs.List.{AllByRecursion, IsDistinct, list_any}
-use Rattle.std.specs.Option.{option_map_or}
 use Rattle.task_board.specs.declared.standing.Standing.{Standing}
 use Rattle.task_board.specs.declared.slot.Slot.{Slot}
-use Rattle.task_board.specs.Rows.{Row, stand, stand_at, without_block, has_row, is_held, is_held_by, Numbered}
-use Rattle.task_board.specs.Slots.{row, row_in, rows_of, restood, emptied, Rising, Below, Parts, IsAt}
+use Rattle.task_board.specs.Rows.{Row, stand, is_held, is_held_by}
+use Rattle.task_board.specs.Slots.{row, row_in, rows_of, restood, Rising, Below, Parts, IsAt}
 
 -- ---- tests of numbers
 

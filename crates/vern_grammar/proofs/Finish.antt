@@ -1,5 +1,5 @@
 -- While the machine has not failed, some tokens more make something of those that it has read.
-use Rattle.std.proofs.Common.{◌≡◌, ℕ, zero, suc, ◌+◌, ◌<◌, Bool, true, cond, ◌⊎◌, inl, inr, List, [], ◌∷◌, ◌++◌, length, Option, Some, None}
+use Rattle.std.proofs.Common.{◌≡◌, ℕ, zero, suc, ◌+◌, ◌<◌, true, cond, ◌⊎◌, inl, inr, List, [], ◌∷◌, ◌++◌, length, Some, None}
 use Rattle.std.proofs.Common.{refl, ap, ◌∙◌, arith, lt-ltb, length-append}
 use Rattle.vern_lex.specs.declared.span.Span.{Span}
 use Rattle.vern_grammar.specs.Trees.{Name, Expression, Shape}
@@ -10,7 +10,7 @@ use Rattle.vern_grammar.specs.Levels.{limit}
 use Rattle.vern_grammar.specs.Grammar.{tok, span, named, binder, Binder, application, quantifier, begin, governing, last, IsNames, none}
 use Rattle.vern_grammar.specs.Grammar.{more}
 use Rattle.vern_grammar.specs.Machine.{Frame, parenthesis, argument, governor, outline, link, State, at, depth, in_shape, Phrase}
-use Rattle.vern_grammar.specs.Machine.{an_expression, a_shape, close, chain, whole, step, run, ends, start, parsed}
+use Rattle.vern_grammar.specs.Machine.{an_expression, a_shape, close, chain, whole, step, run, ends, start}
 use Rattle.vern_grammar.specs.Machine as mode
 use Rattle.vern_grammar.proofs.Runs.{run-append, within_yes, Settles, settles_after, settles_applying}
 use Rattle.vern_grammar.proofs.Sound.{Aim, Reads, bottom, outlined, linked, opened, argued, headed, Has, wants, applies, stands, shaped}

@@ -1,6 +1,6 @@
 -- One tree, exact faults.
-use Rattle.std.proofs.Common.{◌≡◌, ℕ, ◌+◌, ◌<◌, ◌≤◌, ◌⊎◌, inl, inr, List, [], ◌∷◌, ◌++◌, length, take, drop, min, true, Option, Some, None}
-use Rattle.std.proofs.Common.{refl, sym, ap, subst, ◌∙◌, arith, append_assoc, append-nil, take_all, length-append}
+use Rattle.std.proofs.Common.{◌≡◌, ℕ, ◌+◌, ◌<◌, ◌≤◌, ◌⊎◌, inl, inr, List, [], ◌∷◌, ◌++◌, length, take, drop, true, Option, Some, None}
+use Rattle.std.proofs.Common.{refl, sym, ap, ◌∙◌, arith, append_assoc, append-nil, take_all, length-append}
 use Rattle.std.proofs.Math.Seq.{take-append_seam, take-append-add}
 use Rattle.std.proofs.lemmas.List.{take-append-drop, take-append-le, length-take}
 use Rattle.vern_grammar.specs.Trees.{Expression, Shape}
@@ -8,8 +8,8 @@ use Rattle.vern_grammar.specs.Trees as made
 use Rattle.vern_lex.specs.declared.span.Span.{Span}
 use Rattle.vern_grammar.specs.Kinds.{Kind, Lexeme}
 use Rattle.vern_grammar.specs.Kinds as kind
-use Rattle.vern_grammar.specs.Grammar.{tok, IsExpression, IsShape, IsShapeBehind, IsOperand, last, Begins, IsFault}
-use Rattle.vern_grammar.specs.Machine.{Frame, outline, State, Phrase, an_expression, a_shape, step, next, run, result, ends, start, parsed}
+use Rattle.vern_grammar.specs.Grammar.{tok, IsExpression, IsShape, last, Begins, IsFault}
+use Rattle.vern_grammar.specs.Machine.{Frame, outline, State, Phrase, an_expression, a_shape, step, next, run, ends, start, parsed}
 use Rattle.vern_grammar.specs.Machine.{whole, close, chain, Fails}
 use Rattle.vern_grammar.proofs.Runs.{run-append, run-None, is_foreign, operand_most, runs, Arrives, chains, Chains}
 use Rattle.vern_grammar.proofs.Sound.{Aim, for_expression, for_shape, ground, Found, expression_found, shape_found, sound}

@@ -8,13 +8,13 @@ use Rattle.vern_grammar.specs.Trees.{Expression, Shape}
 use Rattle.vern_grammar.specs.Trees as made
 use Rattle.vern_grammar.specs.Kinds.{Kind, Lexeme}
 use Rattle.vern_grammar.specs.Kinds as kind
-use Rattle.vern_grammar.specs.Levels.{op_level, left_at_most, right_at_most, tilde_level, bare, outer, limit}
-use Rattle.vern_grammar.specs.Grammar.{tok, named, group, application, Binder, binder, Head, operator, tilde, quantifier, level, room}
+use Rattle.vern_grammar.specs.Levels.{op_level, left_at_most, tilde_level, bare, outer, limit}
+use Rattle.vern_grammar.specs.Grammar.{tok, named, group, application, binder, Head, operator, tilde, quantifier, level, room}
 use Rattle.vern_grammar.specs.Grammar.{openings, begin, governing, Next, last, before, Fits, Ends, IsNames, none, more, IsGroup, grouped}
 use Rattle.vern_grammar.specs.Grammar.{IsGroups, one, then, IsOperand, constant, applied, enclosed, governed, IsApplication, alone, to_name}
 use Rattle.vern_grammar.specs.Grammar.{to_expression, IsHead, left, negating, names, groups, IsShapeBehind, set, prop, arrow, plain}
 use Rattle.vern_grammar.specs.Machine.{Frame, parenthesis, argument, governor, outline, link, State, at, depth, top, in_shape, within}
-use Rattle.vern_grammar.specs.Machine.{shift, place, close, Phrase, an_expression, chain, whole, step, next, run, ends, start, parsed}
+use Rattle.vern_grammar.specs.Machine.{shift, place, close, chain, whole, step, next, run, ends, start}
 use Rattle.vern_grammar.specs.Machine as mode
 
 pub run-append : (m : Option State) (ts us : List Lexeme) → run m (ts ++ us) ≡ run (run m ts) us

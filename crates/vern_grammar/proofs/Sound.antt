@@ -14,7 +14,7 @@ use Rattle.vern_grammar.specs.Grammar.{Next, last, before, Fits, Ends, IsNames, 
 use Rattle.vern_grammar.specs.Grammar.{then, IsOperand, constant, applied, enclosed, governed, IsApplication, alone, to_name, to_expression}
 use Rattle.vern_grammar.specs.Grammar.{IsHead, left, negating, names, groups, IsShapeBehind, set, prop, arrow, plain}
 use Rattle.vern_grammar.specs.Machine.{Frame, parenthesis, argument, governor, outline, link, State, at, depth, top, in_shape, within}
-use Rattle.vern_grammar.specs.Machine.{pushed, shift, place, close, Phrase, an_expression, a_shape, chain, whole, behind, on, step, next}
+use Rattle.vern_grammar.specs.Machine.{pushed, shift, place, close, Phrase, an_expression, a_shape, chain, whole, behind, on, step}
 use Rattle.vern_grammar.specs.Machine.{run, result, ends, start, parsed}
 use Rattle.vern_grammar.specs.Machine as mode
 use Rattle.vern_grammar.proofs.Runs.{op_below, run-None, top_outer}

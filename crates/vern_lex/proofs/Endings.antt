@@ -1,21 +1,21 @@
 -- How the sentences of a text end.
 use Rattle.std.proofs.Common.{◌≡◌, ℕ, zero, suc, ◌+◌, ◌-◌, ◌<◌, ◌≤◌, ◌⊎◌, inl, inr, ◌&&◌, ◌||◌, ◌==◌, List, [], ◌∷◌, length, drop, get_or}
 use Rattle.std.proofs.Common.{nat_le, Bool, true, false, Option, Some, None, Result, Ok, Err, if◌then◌else◌, length-drop, get_or-drop, refl}
-use Rattle.std.proofs.Common.{sym, ap, ◌∙◌, subst, arith}
+use Rattle.std.proofs.Common.{sym, ap, ◌∙◌, arith}
 use Rattle.std.specs.List.{All, prefix_len}
 use Rattle.std.proofs.lemmas.Bool.{false≢true, cases_lt, eqb-true, eq-eqb, or_parts}
 use Rattle.std.proofs.lemmas.List.{drop_more, drop-drop, get_or_past}
 use Rattle.std.proofs.lemmas.List.Sums.{prefix_len_passes, prefix_len_stops}
 use Rattle.std.proofs.lemmas.List.Elements.{All-nil, All-cons}
 use Rattle.vern_lex.specs.Comments.{outside, first_place, begins, opens_comment, is_blank}
-use Rattle.vern_lex.specs.Sentences.{IsStop, IsBraceSpan, IsBulletSpan, IsSpanToFullStop, IsWholeSentence, is_brace, is_bullet}
+use Rattle.vern_lex.specs.Sentences.{IsStop, IsBulletSpan, IsSpanToFullStop, IsWholeSentence, is_brace, is_bullet}
 use Rattle.vern_lex.specs.Sentences.{is_blank_or_end, stops, length_to_full_stop, sentence_length, within_limit, sentence_at, next_sentence}
 use Rattle.vern_lex.specs.Sentences.{sentences_behind, sentences_of}
 use Rattle.vern_lex.specs.Sentences.IsWholeSentence.{brace as as_brace, bullet as as_bullet, full_stop as as_full_stop}
 use Rattle.vern_lex.specs.declared.span.Span.{Span}
 use Rattle.vern_lex.specs.declared.sentences.CutFault.{CutFault}
 use Rattle.vern_lex.specs.declared.sentences.CutFault.TheVariants.{Unclosed, TooLong}
-use Rattle.vern_lex.proofs.Outsides.{IsPlain, plain_place, plain_byte, length-outside, first_place-within, first_place-found}
+use Rattle.vern_lex.proofs.Outsides.{IsPlain, plain_place, plain_byte, length-outside, first_place-found}
 use Rattle.vern_lex.proofs.Outsides.{prefix_len-outside}
 use Rattle.vern_lex.proofs.Cutting.{step, next_span, within_since, span_begun}
 use Rattle.vern_lex.proofs.Cuts.{no_bullet}

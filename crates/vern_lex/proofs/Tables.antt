@@ -1,9 +1,9 @@
 -- The closers of each end of a text.
 use Rattle.std.proofs.Common.{◌≡◌, ℕ, zero, suc, ◌+◌, ◌-◌, ◌<◌, ◌≤◌, ◌⊎◌, inl, inr, ◌&&◌, ◌==◌, List, [], ◌∷◌, ◌++◌, length, drop, get_or}
-use Rattle.std.proofs.Common.{Bool, true, false, Option, Some, None, MatchOption, Bor, if◌then◌else◌, length-drop, refl, sym, ap, ◌∙◌}
+use Rattle.std.proofs.Common.{Bool, true, false, Option, Some, None, MatchOption, Bor, if◌then◌else◌, refl, sym, ap, ◌∙◌}
 use Rattle.std.proofs.Common.{subst, arith}
 use Rattle.std.proofs.lemmas.Bool.{cases_lt}
-use Rattle.std.proofs.lemmas.List.{drop-drop, drop_all, get_or_append_left, get_or_push, length_push}
+use Rattle.std.proofs.lemmas.List.{drop-drop, get_or_append_left, get_or_push, length_push}
 use Rattle.vern_lex.specs.Closers.{closers, IsTable}
 use Rattle.vern_lex.specs.Comments.{opens_comment, closes_comment, behind, comment_length}
 

@@ -16,7 +16,7 @@ use Rattle.vern_grammar.proofs.Sound.{for_expression}
 use Rattle.vern_grammar.proofs.Finish.{GoesOn, goes_on}
 use Rattle.vern_grammar.proofs.Laws as laws
 use Rattle.vern_sentence.specs.Slots as slots
-use Rattle.vern_sentence.specs.Slots.{IsPart, next_place, tree_at, first_place, is_closed, operand_in}
+use Rattle.vern_sentence.specs.Slots.{IsPart, next_place, first_place, is_closed, operand_in}
 use Rattle.vern_sentence.proofs.Signs.{some_out}
 use Rattle.vern_sentence.proofs.Parts.{over, over-append, over-None, split_over, Ran, Ended}
 

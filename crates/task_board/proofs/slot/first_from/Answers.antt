@@ -1,4 +1,4 @@
-use Rattle.std.proofs.Common.{ltb, ltb-true, ltb-false, lt-ltb, rules, arith}
+use Rattle.std.proofs.Common.{ltb, ltb-true, ltb-false, lt-ltb, rules}
 use Rattle.std.proofs.lemmas.List.Sorted.{IsPartitionPoint-from_clause}
 use Rattle.task_board.proofs.Seen.{partitioned, parts}
 use Rattle.task_board.proofs.slot.first_from.Goals as goal

@@ -1,8 +1,7 @@
-use Rattle.std.proofs.Common.{◌≡◌, ◌+◌, ℕ, List, [], ◌∷◌, length, length-append, take, sym, ap, ◌∙◌, subst, refl, set, arith}
+use Rattle.std.proofs.Common.{[], ◌∷◌, length, length-append, take, sym, ap, ◌∙◌, refl, set, arith}
 use Rattle.std.proofs.lemmas.List.{length-set, length-replicate}
-use Rattle.std.specs.Prelude.{nat_eq}
 use Rattle.task_board.specs.Rows.{is_waiting, is_left}
-use Rattle.task_board.specs.Slots.{Marks, full}
+use Rattle.task_board.specs.Slots.{full}
 use Rattle.task_board.specs.Places.{nothing}
 use Rattle.task_board.proofs.Full.{start-full, step-full, full-less, full-more, full-same}
 use Rattle.task_board.proofs.slot.tournaments.Goals as goal

@@ -1,5 +1,4 @@
-use Rattle.std.proofs.Common.{◌≡◌, ◌<◌, ◌^◌, false, Some, refl, sym, subst, length, ap, ◌∙◌, set}
-use Rattle.task_board.specs.declared.standing.Standing.TheVariants.{Waiting}
+use Rattle.std.proofs.Common.{◌≡◌, ◌<◌, ◌^◌, false, sym, subst, ap, ◌∙◌, set}
 use Rattle.task_board.specs.Rows.{Table, has_row}
 use Rattle.task_board.proofs.Kept.{added-kept, on-ok, table-posted}
 use Rattle.task_board.proofs.board.Board.add.Goals as goal

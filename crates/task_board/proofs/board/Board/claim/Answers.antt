@@ -1,7 +1,7 @@
 use Rattle.std.proofs.Common.{◌≡◌, None, sym, ◌∙◌, subst}
 use Rattle.std.specs.Prelude.{find, nat_eq}
 use Rattle.task_board.specs.declared.standing.Standing.TheVariants.{Held}
-use Rattle.task_board.specs.Rows.{Row, is_waiting}
+use Rattle.task_board.specs.Rows.{is_waiting}
 use Rattle.task_board.specs.Slots.{IsAt, rows_of}
 use Rattle.task_board.proofs.Kept.{stood, table-claimed, table-unclaimed, waiting-least, never-lost}
 use Rattle.task_board.proofs.board.Board.claim.Goals as goal

@@ -1,6 +1,4 @@
-use Rattle.std.proofs.Common.{◌≡◌, ◌≤◌, ◌+◌, ℕ, length, max, sym, ap, ◌∙◌, subst, arith}
-use Rattle.std.specs.Prelude.{vec_capacity, nat_eq}
-use Rattle.std.specs.HashMap.{spare, get}
+use Rattle.std.proofs.Common.{◌≡◌, length, max, ap, ◌∙◌, subst, arith}
 use Rattle.task_board.specs.Rows.{is_waiting, is_left}
 use Rattle.task_board.specs.Slots.{Marks, full, rows_of}
 use Rattle.task_board.proofs.Full.{rows-full}

@@ -1,6 +1,5 @@
 use Rattle.std.proofs.Common.{◌≡◌, None, sym, subst, ap}
 use Rattle.std.specs.Prelude.{find, nat_eq}
-use Rattle.task_board.specs.Rows.{Row}
 use Rattle.task_board.specs.Slots.{IsAt, rows_of}
 use Rattle.task_board.proofs.Kept.{table, without-none, block-never-lost, emptied-kept}
 use Rattle.task_board.proofs.board.Board.withdraw.Goals as goal
