@@ -159,59 +159,58 @@ same_number m n h = grind (arith, nat_tests)
 abbrev Arguments : List Declaration → List Local → ℕ → (List (List ℕ) → Result Terms Fault) → Type 0
 Arguments E c n ts = (ss : List (List ℕ)) (us : Terms) → n ≡ length ss → ts ss ≡ Ok us → HaveSorts E (sorts_in c) us ss
 
-arguments_formed : (E : List Declaration) (c : List Local) (n : ℕ) (ts : List (List ℕ) → Result Terms Fault) →
-    Arguments E c n ts → (x : Name) (ss : List (List ℕ)) (us : Terms) → arguments_at n ss x ts ≡ Ok us → HaveSorts E (sorts_in c) us ss
-arguments_formed E c n ts f x ss us e = let r = passed (n == length ss) (ts ss) (wrong_arity x.span) us e in
-    f ss us (same_number n (length ss) r.0) r.1
+module _ (E : List Declaration) (c : List Local) (x : Name) (n : ℕ) (ts : List (List ℕ) → Result Terms Fault)
+    (f : Arguments E c n ts) where
+  arguments_formed : (ss : List (List ℕ)) (us : Terms) → arguments_at n ss x ts ≡ Ok us → HaveSorts E (sorts_in c) us ss
+  arguments_formed ss us e = let r = passed (n == length ss) (ts ss) (wrong_arity x.span) us e in
+      f ss us (same_number n (length ss) r.0) r.1
 
-term_at_formed : (E : List Declaration) (c : List Local) (x : Name) (n : ℕ) (ts : List (List ℕ) → Result Terms Fault) →
-    Arguments E c n ts → (r : Term × List ℕ) → term_at (known E c x.text) x n ts ≡ Ok r → HasSort E (sorts_in c) r.0 r.1
-term_at_formed E c x n ts f r = go (known E c x.text) (is_known E c x.text)
-  where
-    applied : (d : Declaration) (ss : List (List ℕ)) (s : List ℕ) → Gives (Some d) s → takes (Some d) ≡ ss →
-        find E x.text ≡ Some d → and_then (arguments_at n ss x ts) (λ us. Ok (app x.text us, s)) ≡ Ok r → HasSort E (sorts_in c) r.0 r.1
-    applied d ss s g t h e = let k = steps (arguments_at n ss x ts) (λ us. Ok (app x.text us, s)) r e in
-        subst (λ z. HasSort E (sorts_in c) z.0 z.1) (ok_is (Term × List ℕ) _ _ k.2) (
-          subst (λ o. Gives o s) (sym h) g,
-          subst (λ o. HaveSorts E (sorts_in c) k.0 (takes o)) (sym h)
-              (subst (HaveSorts E (sorts_in c) k.0) (sym t) (arguments_formed E c n ts f x ss k.0 k.1)),
-        )
+  term_at_formed : (r : Term × List ℕ) → term_at (known E c x.text) x n ts ≡ Ok r → HasSort E (sorts_in c) r.0 r.1
+  term_at_formed r = go (known E c x.text) (is_known E c x.text)
+    where
+      applied : (d : Declaration) (ss : List (List ℕ)) (s : List ℕ) → Gives (Some d) s → takes (Some d) ≡ ss →
+          find E x.text ≡ Some d → and_then (arguments_at n ss x ts) (λ us. Ok (app x.text us, s)) ≡ Ok r → HasSort E (sorts_in c) r.0 r.1
+      applied d ss s g t h e = let k = steps (arguments_at n ss x ts) (λ us. Ok (app x.text us, s)) r e in
+          subst (λ z. HasSort E (sorts_in c) z.0 z.1) (ok_is (Term × List ℕ) _ _ k.2) (
+            subst (λ o. Gives o s) (sym h) g,
+            subst (λ o. HaveSorts E (sorts_in c) k.0 (takes o)) (sym h)
+                (subst (HaveSorts E (sorts_in c) k.0) (sym t) (arguments_formed ss k.0 k.1)),
+          )
 
-    go : (k : Known) → IsKnown E c x.text k → term_at k x n ts ≡ Ok r → HasSort E (sorts_in c) r.0 r.1
-    go (bound i s) h e = let k = passed (n == 0) (Ok (var i, s)) (wrong_arity x.span) r e in
-        subst (λ z. HasSort E (sorts_in c) z.0 z.1) (ok_is (Term × List ℕ) _ _ k.1) h
-    go assumed h e = absurd (never _ _ _ e)
-    go unknown h e = absurd (never _ _ _ e)
-    go (declared (sort m)) h e = absurd (never _ _ _ e)
-    go (declared (function m ss s)) h e = applied (function m ss s) ss s refl refl h e
-    go (declared (predicate m ss)) h e = absurd (never _ _ _ e)
-    go (declared (stated m a)) h e = absurd (never _ _ _ e)
-    go (declared (term m ps s b)) h e = applied (term m ps s b) (sorts_of ps) s refl refl h e
-    go (declared (formula m ps b)) h e = absurd (never _ _ _ e)
+      go : (k : Known) → IsKnown E c x.text k → term_at k x n ts ≡ Ok r → HasSort E (sorts_in c) r.0 r.1
+      go (bound i s) h e = let k = passed (n == 0) (Ok (var i, s)) (wrong_arity x.span) r e in
+          subst (λ z. HasSort E (sorts_in c) z.0 z.1) (ok_is (Term × List ℕ) _ _ k.1) h
+      go assumed h e = absurd (never _ _ _ e)
+      go unknown h e = absurd (never _ _ _ e)
+      go (declared (sort m)) h e = absurd (never _ _ _ e)
+      go (declared (function m ss s)) h e = applied (function m ss s) ss s refl refl h e
+      go (declared (predicate m ss)) h e = absurd (never _ _ _ e)
+      go (declared (stated m a)) h e = absurd (never _ _ _ e)
+      go (declared (term m ps s b)) h e = applied (term m ps s b) (sorts_of ps) s refl refl h e
+      go (declared (formula m ps b)) h e = absurd (never _ _ _ e)
 
-formula_at_formed : (E : List Declaration) (c : List Local) (x : Name) (n : ℕ) (ts : List (List ℕ) → Result Terms Fault) →
-    Arguments E c n ts → (a : Formula) → formula_at (known E c x.text) x n ts ≡ Ok a → WellFormed E (sorts_in c) a
-formula_at_formed E c x n ts f a = go (known E c x.text) (is_known E c x.text)
-  where
-    applied : (d : Declaration) (ss : List (List ℕ)) → IsPredicate (Some d) → takes (Some d) ≡ ss → find E x.text ≡ Some d →
-        and_then (arguments_at n ss x ts) (λ us. Ok (pred x.text us)) ≡ Ok a → WellFormed E (sorts_in c) a
-    applied d ss g t h e = let k = steps (arguments_at n ss x ts) (λ us. Ok (pred x.text us)) a e in
-        subst (WellFormed E (sorts_in c)) (ok_is Formula _ _ k.2) (
-          subst IsPredicate (sym h) g,
-          subst (λ o. HaveSorts E (sorts_in c) k.0 (takes o)) (sym h)
-              (subst (HaveSorts E (sorts_in c) k.0) (sym t) (arguments_formed E c n ts f x ss k.0 k.1)),
-        )
+  formula_at_formed : (a : Formula) → formula_at (known E c x.text) x n ts ≡ Ok a → WellFormed E (sorts_in c) a
+  formula_at_formed a = go (known E c x.text) (is_known E c x.text)
+    where
+      applied : (d : Declaration) (ss : List (List ℕ)) → IsPredicate (Some d) → takes (Some d) ≡ ss → find E x.text ≡ Some d →
+          and_then (arguments_at n ss x ts) (λ us. Ok (pred x.text us)) ≡ Ok a → WellFormed E (sorts_in c) a
+      applied d ss g t h e = let k = steps (arguments_at n ss x ts) (λ us. Ok (pred x.text us)) a e in
+          subst (WellFormed E (sorts_in c)) (ok_is Formula _ _ k.2) (
+            subst IsPredicate (sym h) g,
+            subst (λ o. HaveSorts E (sorts_in c) k.0 (takes o)) (sym h)
+                (subst (HaveSorts E (sorts_in c) k.0) (sym t) (arguments_formed ss k.0 k.1)),
+          )
 
-    go : (k : Known) → IsKnown E c x.text k → formula_at k x n ts ≡ Ok a → WellFormed E (sorts_in c) a
-    go (bound i s) h e = absurd (never _ _ _ e)
-    go assumed h e = absurd (never _ _ _ e)
-    go unknown h e = absurd (never _ _ _ e)
-    go (declared (sort m)) h e = absurd (never _ _ _ e)
-    go (declared (function m ss s)) h e = absurd (never _ _ _ e)
-    go (declared (predicate m ss)) h e = applied (predicate m ss) ss tt refl h e
-    go (declared (stated m b)) h e = absurd (never _ _ _ e)
-    go (declared (term m ps s b)) h e = absurd (never _ _ _ e)
-    go (declared (formula m ps b)) h e = applied (formula m ps b) (sorts_of ps) tt refl h e
+      go : (k : Known) → IsKnown E c x.text k → formula_at k x n ts ≡ Ok a → WellFormed E (sorts_in c) a
+      go (bound i s) h e = absurd (never _ _ _ e)
+      go assumed h e = absurd (never _ _ _ e)
+      go unknown h e = absurd (never _ _ _ e)
+      go (declared (sort m)) h e = absurd (never _ _ _ e)
+      go (declared (function m ss s)) h e = absurd (never _ _ _ e)
+      go (declared (predicate m ss)) h e = applied (predicate m ss) ss tt refl h e
+      go (declared (stated m b)) h e = absurd (never _ _ _ e)
+      go (declared (term m ps s b)) h e = absurd (never _ _ _ e)
+      go (declared (formula m ps b)) h e = applied (formula m ps b) (sorts_of ps) tt refl h e
 
 -- ---- terms
 
@@ -247,10 +246,11 @@ mutual
 -- ---- formulas
 
 module _ (E : List Declaration) (x : Environment E) where
-  equation_formed : (V : List (List ℕ)) → AreSorts E V → (p : Span) (t u : Term × List ℕ) (a : Formula) → HasSort E V t.0 t.1 →
-      HasSort E V u.0 u.1 → equation_of p t u ≡ Ok a → WellFormed E V a
-  equation_formed V g p t u a h k e = let j = steps (of_sort t.1 p u) (λ v. Ok (equal t.1 t.0 v)) a e in
-      subst (WellFormed E V) (ok_is Formula _ _ j.2) (sort_declared E x V g t.0 t.1 h, h, of_sort_formed E V t.1 p u j.0 k j.1)
+  module _ (V : List (List ℕ)) (g : AreSorts E V) where
+    equation_formed : (p : Span) (t u : Term × List ℕ) (a : Formula) → HasSort E V t.0 t.1 →
+        HasSort E V u.0 u.1 → equation_of p t u ≡ Ok a → WellFormed E V a
+    equation_formed p t u a h k e = let j = steps (of_sort t.1 p u) (λ v. Ok (equal t.1 t.0 v)) a e in
+        subst (WellFormed E V) (ok_is Formula _ _ j.2) (sort_declared E x V g t.0 t.1 h, h, of_sort_formed E V t.1 p u j.0 k j.1)
 
   -- names of one sort
   names_formed : (q : Bool) (s : List ℕ) → IsSort (find E s) → (xs : List Name) (c : List Local) → AreSorts E (sorts_in c) →

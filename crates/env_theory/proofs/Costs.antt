@@ -127,22 +127,23 @@ row_takes (d ∷ E) x f n ps r b h = go (is_name (name_of d) f) refl h (λ k. ro
         (takes_moved E (d ∷ E) (cost_row (cost_table E) f) b
         (λ w. sym (table_skips d E x.0 w (bound ps) b r ((declares_found E x.2 f (term n ps r b) k).2))) (g k))
 
--- a definition: its body, with the arguments
-pub defined_step : (E : List Declaration) → Environment E → (f n : List ℕ) (ps : List Parameter) (r : List ℕ) (b : Term)
-    → find E f ≡ Some (term n ps r b) → (c : Scope) (ts : Terms) → left E (body ts c) b < left E c (app f ts)
-defined_step E x f n ps r b e c ts = go (cost_row (cost_table E) f) (row_takes E x f n ps r b e)
-  where
-    R : List CostRow
-    R = cost_table E
+module _ (E : List Declaration) (x : Environment E) (f n : List ℕ) (ps : List Parameter) (r : List ℕ) (b : Term)
+    (e : find E f ≡ Some (term n ps r b)) where
+  -- a definition: its body, with the arguments
+  pub defined_step : (c : Scope) (ts : Terms) → left E (body ts c) b < left E c (app f ts)
+  defined_step c ts = go (cost_row (cost_table E) f) (row_takes E x f n ps r b e)
+    where
+      R : List CostRow
+      R = cost_table E
 
-    w : ℕ → ℕ
-    w = scope_cost (cost_table E) c
+      w : ℕ → ℕ
+      w = scope_cost (cost_table E) c
 
-    go : (o : Option CostRow) → Takes E o b
-        → cost (cost_table E) (scope_cost (cost_table E) (body ts c)) b < cost_headed o
-        (costs (cost_table E) (scope_cost (cost_table E) c) ts) (cost_argument (cost_table E) (scope_cost (cost_table E) c) ts)
-    go None h = absurd h
-    go (Some q) h = omega (arith, h (cost_argument (cost_table E) (scope_cost (cost_table E) c) ts))
+      go : (o : Option CostRow) → Takes E o b
+          → cost (cost_table E) (scope_cost (cost_table E) (body ts c)) b < cost_headed o
+          (costs (cost_table E) (scope_cost (cost_table E) c) ts) (cost_argument (cost_table E) (scope_cost (cost_table E) c) ts)
+      go None h = absurd h
+      go (Some q) h = omega (arith, h (cost_argument (cost_table E) (scope_cost (cost_table E) c) ts))
 
 -- an argument of a function without a definition
 pub no_row : (E : List Declaration) → Environment E → (f n : List ℕ) (ss : List (List ℕ)) (r : List ℕ)
@@ -156,10 +157,10 @@ no_row (d ∷ E) x f n ss r h = go (is_name (name_of d) f) refl h (λ k. no_row 
         ap (λ z. cost_row (cost_table (z ∷ E)) f) e ∙ cost_unknown E f (ap (find E) (sym (one_name (name_of d) f q)) ∙ x.0)
     go false q k g = cost_other d E f q ∙ g k
 
--- the arguments of a function without a definition, together
-pub arguments_step : (E : List Declaration) → Environment E → (f n : List ℕ) (ss : List (List ℕ)) (r : List ℕ)
-    → find E f ≡ Some (function n ss r) → (c : Scope) (ts : Terms)
-    → costs (cost_table E) (scope_cost (cost_table E) c) ts < left E c (app f ts)
-arguments_step E x f n ss r e c ts =
-    let k = ap (λ o. cost_headed o (costs (cost_table E) (scope_cost (cost_table E) c) ts)
-    (cost_argument (cost_table E) (scope_cost (cost_table E) c) ts)) (no_row E x f n ss r e) in omega (arith, k)
+module _ (E : List Declaration) (x : Environment E) (f n : List ℕ) (ss : List (List ℕ)) (r : List ℕ)
+    (e : find E f ≡ Some (function n ss r)) where
+  -- the arguments of a function without a definition, together
+  pub arguments_step : (c : Scope) (ts : Terms) → costs (cost_table E) (scope_cost (cost_table E) c) ts < left E c (app f ts)
+  arguments_step c ts =
+      let k = ap (λ o. cost_headed o (costs (cost_table E) (scope_cost (cost_table E) c) ts)
+      (cost_argument (cost_table E) (scope_cost (cost_table E) c) ts)) (no_row E x f n ss r e) in omega (arith, k)

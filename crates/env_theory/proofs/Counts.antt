@@ -130,15 +130,15 @@ module _ (S : Scale) where
 
     -- ---- a predicate's row stands for its body put in
 
-    put_formula : (T : Table) (F : List Declaration) (V : List (List ℕ)) (b : Formula) → WellFormed F V b → (ts : Terms)
-        → length V ≡ many ts → (e : ℕ) (w : ℕ → ℕ) →
-        S.plus (S.times e (count S T 1 nothing b)) (spread S T.functions e w (λ k. count S T 0 (only k) b) ts)
-        ≡ count S T e w (replace (argument ts) b)
-    put_formula T F V b h ts l e w =
-        ap (S.plus (S.times e (count S T 1 nothing b))) (sym (sum_arguments S L (λ k. count S T 0 (only k) b) T.functions e w ts)) ∙
-        ap (λ z. S.plus (S.times e (count S T 1 nothing b))
-        (sum S z (λ k. count S T 0 (only k) b) (λ i. count_term S T.functions e w (argument ts i)))) (sym l) ∙
-        sym (formula_linear S L T F V b h e (λ i. count_term S T.functions e w (argument ts i))) ∙ sym (substituted T e w (argument ts) b)
+    module _ (F : List Declaration) (V : List (List ℕ)) (b : Formula) (h : WellFormed F V b) where
+      put_formula : (T : Table) (ts : Terms) → length V ≡ many ts → (e : ℕ) (w : ℕ → ℕ) →
+          S.plus (S.times e (count S T 1 nothing b)) (spread S T.functions e w (λ k. count S T 0 (only k) b) ts)
+          ≡ count S T e w (replace (argument ts) b)
+      put_formula T ts l e w =
+          ap (S.plus (S.times e (count S T 1 nothing b))) (sym (sum_arguments S L (λ k. count S T 0 (only k) b) T.functions e w ts)) ∙
+          ap (λ z. S.plus (S.times e (count S T 1 nothing b))
+          (sum S z (λ k. count S T 0 (only k) b) (λ i. count_term S T.functions e w (argument ts i)))) (sym l) ∙
+          sym (formula_linear S L T F V b h e (λ i. count_term S T.functions e w (argument ts i))) ∙ sym (substituted T e w (argument ts) b)
 
     module _ (F : List Declaration) (n : List ℕ) (ps : List Parameter) (b : Formula) (d : Put F (formula n ps b)) (T : Table) where
       abbrev with_row : Table
@@ -154,7 +154,7 @@ module _ (S : Scale) where
               headed S e (if q then Some (formula_row S T n b) else row T.predicates p) (count_terms S T.functions e w ts)
               (λ u. spread S T.functions e w u ts) ≡ count S T e w (if q then replace (argument ts) b else pred p ts)
           go true q = let found : find F p ≡ Some (formula n ps b) = ap (find F) (sym (one_name n p q)) ∙ d.0 in
-              put_formula T F (bound ps) b d.1 ts (sym (many_sorts F V ts ps (subst (λ o. HaveSorts F V ts (takes o)) found h.1))) e w
+              put_formula F (bound ps) b d.1 T ts (sym (many_sorts F V ts ps (subst (λ o. HaveSorts F V ts (takes o)) found h.1))) e w
           go false q = refl
       predicate_formula e w V (equal s t u) h = refl
       predicate_formula e w V (both a c) h = λ i. node S e (S.plus (predicate_formula e w V a h.0 i) (predicate_formula e w V c h.1 i))
@@ -165,38 +165,37 @@ module _ (S : Scale) where
 
     -- ---- one declaration, then all
 
-    row_term : (F : List Declaration) (d : Declaration) → Put F d
-        → (T : Table) (e : ℕ) (w : ℕ → ℕ) (V : List (List ℕ)) (t : Term) (s : List ℕ) → HasSort F V t s →
-        count_term S (Table.functions (add_row S d T)) e w t ≡ count_term S T.functions e w (expand_term d t)
-    row_term F (sort n) p T e w V t s h = refl
-    row_term F (function n ss r) p T e w V t s h = refl
-    row_term F (predicate n ss) p T e w V t s h = refl
-    row_term F (stated n a) p T e w V t s h = refl
-    row_term F (term n ps r b) p T e w V t s h = function_term F n ps r b p T.functions e w V t s h
-    row_term F (formula n ps b) p T e w V t s h = refl
+    module _ (F : List Declaration) where
+      module _ (e : ℕ) (w : ℕ → ℕ) (V : List (List ℕ)) where
+        row_term : (d : Declaration) → Put F d → (T : Table) (t : Term) (s : List ℕ) → HasSort F V t s →
+            count_term S (Table.functions (add_row S d T)) e w t ≡ count_term S T.functions e w (expand_term d t)
+        row_term (sort n) p T t s h = refl
+        row_term (function n ss r) p T t s h = refl
+        row_term (predicate n ss) p T t s h = refl
+        row_term (stated n a) p T t s h = refl
+        row_term (term n ps r b) p T t s h = function_term F n ps r b p T.functions e w V t s h
+        row_term (formula n ps b) p T t s h = refl
 
-    row_formula : (F : List Declaration) (d : Declaration) → Put F d → (T : Table) (e : ℕ) (w : ℕ → ℕ) (V : List (List ℕ)) (a : Formula)
-        → WellFormed F V a →
-        count S (add_row S d T) e w a ≡ count S T e w (expand d a)
-    row_formula F (sort n) p T e w V a h = refl
-    row_formula F (function n ss r) p T e w V a h = refl
-    row_formula F (predicate n ss) p T e w V a h = refl
-    row_formula F (stated n b) p T e w V a h = refl
-    row_formula F (term n ps r b) p T e w V a h = function_formula F n ps r b p T.functions T.predicates e w V a h
-    row_formula F (formula n ps b) p T e w V a h = predicate_formula F n ps b p T e w V a h
+        row_formula : (d : Declaration) → Put F d → (T : Table) (a : Formula) → WellFormed F V a →
+            count S (add_row S d T) e w a ≡ count S T e w (expand d a)
+        row_formula (sort n) p T a h = refl
+        row_formula (function n ss r) p T a h = refl
+        row_formula (predicate n ss) p T a h = refl
+        row_formula (stated n b) p T a h = refl
+        row_formula (term n ps r b) p T a h = function_formula F n ps r b p T.functions T.predicates e w V a h
+        row_formula (formula n ps b) p T a h = predicate_formula F n ps b p T e w V a h
 
-    pub rows_term : (F E : List Declaration) → Puts F E → (e : ℕ) (w : ℕ → ℕ) (V : List (List ℕ)) (t : Term) (s : List ℕ)
-        → HasSort F V t s →
-        count_term S (Table.functions (table S E)) e w t ≡ count_term S [] e w (normal_term E t)
-    rows_term F [] p e w V t s h = refl
-    rows_term F (d ∷ E) p e w V t s h =
-        row_term F d p.0 (table S E) e w V t s h ∙ rows_term F E p.1 e w V (expand_term d t) s (expand_sort F d p.0 V t s h)
+      pub rows_term : (E : List Declaration) → Puts F E → (e : ℕ) (w : ℕ → ℕ) (V : List (List ℕ)) (t : Term) (s : List ℕ)
+          → HasSort F V t s → count_term S (Table.functions (table S E)) e w t ≡ count_term S [] e w (normal_term E t)
+      rows_term [] p e w V t s h = refl
+      rows_term (d ∷ E) p e w V t s h =
+          row_term e w V d p.0 (table S E) t s h ∙ rows_term E p.1 e w V (expand_term d t) s (expand_sort F d p.0 V t s h)
 
-    rows_formula : (F E : List Declaration) → Puts F E → (e : ℕ) (w : ℕ → ℕ) (V : List (List ℕ)) (a : Formula) → WellFormed F V a →
-        count S (table S E) e w a ≡ count S no_rows e w (normal E a)
-    rows_formula F [] p e w V a h = refl
-    rows_formula F (d ∷ E) p e w V a h =
-        row_formula F d p.0 (table S E) e w V a h ∙ rows_formula F E p.1 e w V (expand d a) (expand_formed F d p.0 V a h)
+      rows_formula : (E : List Declaration) → Puts F E → (e : ℕ) (w : ℕ → ℕ) (V : List (List ℕ)) (a : Formula) → WellFormed F V a →
+          count S (table S E) e w a ≡ count S no_rows e w (normal E a)
+      rows_formula [] p e w V a h = refl
+      rows_formula (d ∷ E) p e w V a h =
+          row_formula e w V d p.0 (table S E) a h ∙ rows_formula E p.1 e w V (expand d a) (expand_formed F d p.0 V a h)
 
 -- ---- without rows the counts are the nodes and the height
 

@@ -98,73 +98,72 @@ expand_other_pred (stated n a) p ts e = refl
 expand_other_pred (term n ps r b) p ts e = refl
 expand_other_pred (formula n ps b) p ts e = ap (λ q. if q then replace (argument ts) b else pred p ts) e
 
--- the newest declaration is the definition of the name
-own_term : (E : List Declaration) → Environment E → (f n : List ℕ) (ps : List Parameter) (r : List ℕ) (b : Term) (ts : Terms)
-    → many ts ≡ length (bound ps) →
-    (d : Declaration) → d ≡ term n ps r b → is_name (name_of d) f ≡ true → find E (name_of d) ≡ None → Declares E d →
-    normal_term E (expand_term d (app f ts))
-    ≡ replace_term (argument (normal_terms E (expand_terms d ts))) (normal_term E (expand_term d b))
-own_term E x f n ps r b ts m d e = subst (λ d. is_name (name_of d) f ≡ true → find E (name_of d) ≡ None → Declares E d →
-    normal_term E (expand_term d (app f ts))
-    ≡ replace_term (argument (normal_terms E (expand_terms d ts))) (normal_term E (expand_term d b))) (sym e) put
-  where
-    us : Terms
-    us = unfold_terms n b ts
-
-    put : is_name n f ≡ true → find E n ≡ None → Declares E (term n ps r b)
-        → normal_term E (unfold_term n b (app f ts)) ≡ replace_term (argument (normal_terms E us)) (normal_term E (unfold_term n b b))
-    put q new k = ap (λ z. normal_term E (if z then replace_term (argument us) b else app f us)) q ∙
-        body_term E x ps r b k.2 us (many_unfold n b ts ∙ m) ∙
-        ap (λ z. replace_term (argument (normal_terms E us)) (normal_term E z)) (sym (term_skips (term n ps r b) E new (bound ps) b r k.2))
-
-own_formula : (E : List Declaration) → Environment E → (p n : List ℕ) (ps : List Parameter) (b : Formula) (ts : Terms)
-    → many ts ≡ length (bound ps) →
-    (d : Declaration) → d ≡ formula n ps b → is_name (name_of d) p ≡ true → find E (name_of d) ≡ None → Declares E d →
-    normal E (expand d (pred p ts)) ≡ replace (argument (normal_terms E (expand_terms d ts))) (normal E (expand d b))
-own_formula E x p n ps b ts m d e = subst (λ d. is_name (name_of d) p ≡ true → find E (name_of d) ≡ None → Declares E d →
-    normal E (expand d (pred p ts)) ≡ replace (argument (normal_terms E (expand_terms d ts))) (normal E (expand d b))) (sym e) put
-  where
-    put : is_name n p ≡ true → find E n ≡ None → Declares E (formula n ps b)
-        → normal E (unfold_predicate n b (pred p ts)) ≡ replace (argument (normal_terms E ts)) (normal E (unfold_predicate n b b))
-    put q new k = ap (λ z. normal E (if z then replace (argument ts) b else pred p ts)) q ∙
-        body_formula E x ps b k.1 ts m ∙
-        ap (λ z. replace (argument (normal_terms E ts)) (normal E z)) (sym (formula_skips (formula n ps b) E new (bound ps) b k.1))
-
--- a function that is defined
-defined_in : (E : List Declaration) → Environment E → (f n : List ℕ) (ps : List Parameter) (r : List ℕ) (b : Term)
-    → find E f ≡ Some (term n ps r b) → (ts : Terms) → many ts ≡ length (bound ps) →
-    normal_term E (app f ts) ≡ replace_term (argument (normal_terms E ts)) (normal_term E b)
-defined_in [] x f n ps r b h ts m = cc
-defined_in (d ∷ E) x f n ps r b h ts m =
-    go (is_name (name_of d) f) refl h (λ k. defined_in E x.2 f n ps r b k (expand_terms d ts) (many_expand d ts ∙ m))
-  where
-    go : (q : Bool) → is_name (name_of d) f ≡ q → (if q then Some d else find E f) ≡ Some (term n ps r b) →
-        (find E f ≡ Some (term n ps r b)
-        → normal_term E (app f (expand_terms d ts)) ≡ replace_term (argument (normal_terms E (expand_terms d ts))) (normal_term E b)) →
+module _ (f n : List ℕ) (ps : List Parameter) (r : List ℕ) (b : Term) where
+  module _ (E : List Declaration) (x : Environment E) (ts : Terms) (m : many ts ≡ length (bound ps)) where
+    -- the newest declaration is the definition of the name
+    own_term : (d : Declaration) → d ≡ term n ps r b → is_name (name_of d) f ≡ true → find E (name_of d) ≡ None → Declares E d →
         normal_term E (expand_term d (app f ts))
         ≡ replace_term (argument (normal_terms E (expand_terms d ts))) (normal_term E (expand_term d b))
-    go true q k g = let e : d ≡ term n ps r b = cc in own_term E x.2 f n ps r b ts m d e q x.0 x.1
-    go false q k g = let p = put_found E E (puts E x.2) f (term n ps r b) k in
-        ap (normal_term E) (expand_other d f ts q) ∙ g k
-        ∙ ap (λ z. replace_term (argument (normal_terms E (expand_terms d ts))) (normal_term E z))
-        (sym (term_skips d E x.0 (bound ps) b r p.1))
+    own_term d e = subst (λ d. is_name (name_of d) f ≡ true → find E (name_of d) ≡ None → Declares E d →
+        normal_term E (expand_term d (app f ts))
+        ≡ replace_term (argument (normal_terms E (expand_terms d ts))) (normal_term E (expand_term d b))) (sym e) put
+      where
+        us : Terms
+        us = unfold_terms n b ts
 
--- a predicate that is defined
-defined_formula_in : (E : List Declaration) → Environment E → (p n : List ℕ) (ps : List Parameter) (b : Formula)
-    → find E p ≡ Some (formula n ps b) → (ts : Terms) → many ts ≡ length (bound ps) →
-    normal E (pred p ts) ≡ replace (argument (normal_terms E ts)) (normal E b)
-defined_formula_in [] x p n ps b h ts m = cc
-defined_formula_in (d ∷ E) x p n ps b h ts m =
-    go (is_name (name_of d) p) refl h (λ k. defined_formula_in E x.2 p n ps b k (expand_terms d ts) (many_expand d ts ∙ m))
-  where
-    go : (q : Bool) → is_name (name_of d) p ≡ q → (if q then Some d else find E p) ≡ Some (formula n ps b) →
-        (find E p ≡ Some (formula n ps b)
-        → normal E (pred p (expand_terms d ts)) ≡ replace (argument (normal_terms E (expand_terms d ts))) (normal E b)) →
+        put : is_name n f ≡ true → find E n ≡ None → Declares E (term n ps r b)
+            → normal_term E (unfold_term n b (app f ts)) ≡ replace_term (argument (normal_terms E us)) (normal_term E (unfold_term n b b))
+        put q new k = ap (λ z. normal_term E (if z then replace_term (argument us) b else app f us)) q ∙
+            body_term E x ps r b k.2 us (many_unfold n b ts ∙ m) ∙
+            ap (λ z. replace_term (argument (normal_terms E us)) (normal_term E z))
+            (sym (term_skips (term n ps r b) E new (bound ps) b r k.2))
+
+  -- a function that is defined
+  defined_in : (E : List Declaration) → Environment E → find E f ≡ Some (term n ps r b) → (ts : Terms) → many ts ≡ length (bound ps) →
+      normal_term E (app f ts) ≡ replace_term (argument (normal_terms E ts)) (normal_term E b)
+  defined_in [] x h ts m = cc
+  defined_in (d ∷ E) x h ts m =
+      go (is_name (name_of d) f) refl h (λ k. defined_in E x.2 k (expand_terms d ts) (many_expand d ts ∙ m))
+    where
+      go : (q : Bool) → is_name (name_of d) f ≡ q → (if q then Some d else find E f) ≡ Some (term n ps r b) →
+          (find E f ≡ Some (term n ps r b)
+          → normal_term E (app f (expand_terms d ts)) ≡ replace_term (argument (normal_terms E (expand_terms d ts))) (normal_term E b)) →
+          normal_term E (expand_term d (app f ts))
+          ≡ replace_term (argument (normal_terms E (expand_terms d ts))) (normal_term E (expand_term d b))
+      go true q k g = let e : d ≡ term n ps r b = cc in own_term E x.2 ts m d e q x.0 x.1
+      go false q k g = let p = put_found E E (puts E x.2) f (term n ps r b) k in
+          ap (normal_term E) (expand_other d f ts q) ∙ g k
+          ∙ ap (λ z. replace_term (argument (normal_terms E (expand_terms d ts))) (normal_term E z))
+          (sym (term_skips d E x.0 (bound ps) b r p.1))
+
+module _ (p n : List ℕ) (ps : List Parameter) (b : Formula) where
+  module _ (E : List Declaration) (x : Environment E) (ts : Terms) (m : many ts ≡ length (bound ps)) where
+    own_formula : (d : Declaration) → d ≡ formula n ps b → is_name (name_of d) p ≡ true → find E (name_of d) ≡ None → Declares E d →
         normal E (expand d (pred p ts)) ≡ replace (argument (normal_terms E (expand_terms d ts))) (normal E (expand d b))
-    go true q k g = let e : d ≡ formula n ps b = cc in own_formula E x.2 p n ps b ts m d e q x.0 x.1
-    go false q k g = let y = put_found E E (puts E x.2) p (formula n ps b) k in
-        ap (normal E) (expand_other_pred d p ts q) ∙ g k
-        ∙ ap (λ z. replace (argument (normal_terms E (expand_terms d ts))) (normal E z)) (sym (formula_skips d E x.0 (bound ps) b y.1))
+    own_formula d e = subst (λ d. is_name (name_of d) p ≡ true → find E (name_of d) ≡ None → Declares E d →
+        normal E (expand d (pred p ts)) ≡ replace (argument (normal_terms E (expand_terms d ts))) (normal E (expand d b))) (sym e) put
+      where
+        put : is_name n p ≡ true → find E n ≡ None → Declares E (formula n ps b)
+            → normal E (unfold_predicate n b (pred p ts)) ≡ replace (argument (normal_terms E ts)) (normal E (unfold_predicate n b b))
+        put q new k = ap (λ z. normal E (if z then replace (argument ts) b else pred p ts)) q ∙
+            body_formula E x ps b k.1 ts m ∙
+            ap (λ z. replace (argument (normal_terms E ts)) (normal E z)) (sym (formula_skips (formula n ps b) E new (bound ps) b k.1))
+
+  -- a predicate that is defined
+  defined_formula_in : (E : List Declaration) → Environment E → find E p ≡ Some (formula n ps b) → (ts : Terms) →
+      many ts ≡ length (bound ps) → normal E (pred p ts) ≡ replace (argument (normal_terms E ts)) (normal E b)
+  defined_formula_in [] x h ts m = cc
+  defined_formula_in (d ∷ E) x h ts m =
+      go (is_name (name_of d) p) refl h (λ k. defined_formula_in E x.2 k (expand_terms d ts) (many_expand d ts ∙ m))
+    where
+      go : (q : Bool) → is_name (name_of d) p ≡ q → (if q then Some d else find E p) ≡ Some (formula n ps b) →
+          (find E p ≡ Some (formula n ps b)
+          → normal E (pred p (expand_terms d ts)) ≡ replace (argument (normal_terms E (expand_terms d ts))) (normal E b)) →
+          normal E (expand d (pred p ts)) ≡ replace (argument (normal_terms E (expand_terms d ts))) (normal E (expand d b))
+      go true q k g = let e : d ≡ formula n ps b = cc in own_formula E x.2 ts m d e q x.0 x.1
+      go false q k g = let y = put_found E E (puts E x.2) p (formula n ps b) k in
+          ap (normal E) (expand_other_pred d p ts q) ∙ g k
+          ∙ ap (λ z. replace (argument (normal_terms E (expand_terms d ts))) (normal E z)) (sym (formula_skips d E x.0 (bound ps) b y.1))
 
 -- a name that isn't declared
 normal_unknown : (E : List Declaration) (f : List ℕ) → find E f ≡ None → (ts : Terms) → normal_term E (app f ts) ≡ app f (normal_terms E ts)
@@ -180,15 +179,17 @@ normal_unknown_pred (d ∷ E) p h ts =
 
 -- ---- the laws
 
-pub normal_defined : (E : List Declaration) → Environment E → (f n : List ℕ) (ps : List Parameter) (r : List ℕ) (b : Term)
-    → find E f ≡ Some (term n ps r b) → (V : List (List ℕ)) (ts : Terms) → HaveSorts E V ts (sorts_of ps) →
-    normal_term E (app f ts) ≡ replace_term (argument (normal_terms E ts)) (normal_term E b)
-normal_defined E x f n ps r b e V ts h = defined_in E x f n ps r b e ts (many_sorts E V ts ps h)
+module _ (E : List Declaration) (x : Environment E) (f n : List ℕ) (ps : List Parameter) (r : List ℕ) (b : Term)
+    (e : find E f ≡ Some (term n ps r b)) where
+  pub normal_defined : (V : List (List ℕ)) (ts : Terms) → HaveSorts E V ts (sorts_of ps) →
+      normal_term E (app f ts) ≡ replace_term (argument (normal_terms E ts)) (normal_term E b)
+  normal_defined V ts h = defined_in f n ps r b E x e ts (many_sorts E V ts ps h)
 
-pub normal_defined_formula : (E : List Declaration) → Environment E → (p n : List ℕ) (ps : List Parameter) (b : Formula)
-    → find E p ≡ Some (formula n ps b) → (V : List (List ℕ)) (ts : Terms) → HaveSorts E V ts (sorts_of ps) →
-    normal E (pred p ts) ≡ replace (argument (normal_terms E ts)) (normal E b)
-normal_defined_formula E x p n ps b e V ts h = defined_formula_in E x p n ps b e ts (many_sorts E V ts ps h)
+module _ (E : List Declaration) (x : Environment E) (p n : List ℕ) (ps : List Parameter) (b : Formula)
+    (e : find E p ≡ Some (formula n ps b)) where
+  pub normal_defined_formula : (V : List (List ℕ)) (ts : Terms) → HaveSorts E V ts (sorts_of ps) →
+      normal E (pred p ts) ≡ replace (argument (normal_terms E ts)) (normal E b)
+  normal_defined_formula V ts h = defined_formula_in p n ps b E x e ts (many_sorts E V ts ps h)
 
 -- a function that is declared without a definition
 pub normal_function : (E : List Declaration) → Environment E → (f n : List ℕ) (ss : List (List ℕ)) (r : List ℕ)

@@ -133,15 +133,16 @@ row_takes_formula (d ∷ E) x p n ps b h = go (is_name (name_of d) p) refl h (λ
         (formula_moved E (d ∷ E) (cost_row (formula_table E) p) b
         (λ w. sym (formulas_skip d E x.0 w (bound ps) b ((declares_found E x.2 p (formula n ps b) k).1))) (g k))
 
-pub defined_formula_step : (E : List Declaration) → Environment E → (p n : List ℕ) (ps : List Parameter) (b : Formula)
-    → find E p ≡ Some (formula n ps b) → (c : Scope) (ts : Terms) → formula_left E (body ts c) b < formula_left E c (pred p ts)
-defined_formula_step E x p n ps b e c ts = go (cost_row (formula_table E) p) (row_takes_formula E x p n ps b e)
-  where
-    go : (o : Option CostRow) → TakesFormula E o b
-        → formula_cost (cost_table E) (formula_table E) (scope_cost (cost_table E) (body ts c)) b < cost_applied o
-        (costs (cost_table E) (scope_cost (cost_table E) c) ts) (cost_argument (cost_table E) (scope_cost (cost_table E) c) ts)
-    go None h = absurd h
-    go (Some q) h = omega (arith, h (cost_argument (cost_table E) (scope_cost (cost_table E) c) ts))
+module _ (E : List Declaration) (x : Environment E) (p n : List ℕ) (ps : List Parameter) (b : Formula)
+    (e : find E p ≡ Some (formula n ps b)) where
+  pub defined_formula_step : (c : Scope) (ts : Terms) → formula_left E (body ts c) b < formula_left E c (pred p ts)
+  defined_formula_step c ts = go (cost_row (formula_table E) p) (row_takes_formula E x p n ps b e)
+    where
+      go : (o : Option CostRow) → TakesFormula E o b
+          → formula_cost (cost_table E) (formula_table E) (scope_cost (cost_table E) (body ts c)) b < cost_applied o
+          (costs (cost_table E) (scope_cost (cost_table E) c) ts) (cost_argument (cost_table E) (scope_cost (cost_table E) c) ts)
+      go None h = absurd h
+      go (Some q) h = omega (arith, h (cost_argument (cost_table E) (scope_cost (cost_table E) c) ts))
 
 -- an argument of a predicate without a definition
 no_formula_row : (E : List Declaration) → Environment E → (p n : List ℕ) (ss : List (List ℕ)) → find E p ≡ Some (predicate n ss)

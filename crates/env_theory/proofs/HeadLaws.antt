@@ -99,18 +99,18 @@ head_stays (d ∷ E) a h = ap (head_form E) (expand_head_stays d a h) ∙ head_s
 
 -- ---- a predicate
 
-own_head : (E : List Declaration) (p n : List ℕ) (ps : List Parameter) (b : Formula) (ts : Terms) (d : Declaration) → d ≡ formula n ps b →
-    is_name (name_of d) p ≡ true → find E (name_of d) ≡ None → Declares E d →
-    head_form E (expand_head d (pred p ts)) ≡ replace (argument ts) (head_form E (expand_head d b))
-own_head E p n ps b ts d e = subst (λ d. is_name (name_of d) p ≡ true → find E (name_of d) ≡ None → Declares E d →
-    head_form E (expand_head d (pred p ts)) ≡ replace (argument ts) (head_form E (expand_head d b))) (sym e) put
-  where
-    put : is_name n p ≡ true → find E n ≡ None → Declares E (formula n ps b) →
-        head_form E (expand_head (formula n ps b) (pred p ts)) ≡ replace (argument ts) (head_form E (expand_head (formula n ps b) b))
-    put q new k =
-        ap (λ r. head_form E (if r then replace (argument ts) b else pred p ts)) q
-        ∙ head_replace E (argument ts) b
-        ∙ ap (λ z. replace (argument ts) (head_form E z)) (sym (head_skips (formula n ps b) E new (bound ps) b k.1))
+module _ (E : List Declaration) (p n : List ℕ) (ps : List Parameter) (b : Formula) (ts : Terms) where
+  own_head : (d : Declaration) → d ≡ formula n ps b → is_name (name_of d) p ≡ true → find E (name_of d) ≡ None → Declares E d →
+      head_form E (expand_head d (pred p ts)) ≡ replace (argument ts) (head_form E (expand_head d b))
+  own_head d e = subst (λ d. is_name (name_of d) p ≡ true → find E (name_of d) ≡ None → Declares E d →
+      head_form E (expand_head d (pred p ts)) ≡ replace (argument ts) (head_form E (expand_head d b))) (sym e) put
+    where
+      put : is_name n p ≡ true → find E n ≡ None → Declares E (formula n ps b) →
+          head_form E (expand_head (formula n ps b) (pred p ts)) ≡ replace (argument ts) (head_form E (expand_head (formula n ps b) b))
+      put q new k =
+          ap (λ r. head_form E (if r then replace (argument ts) b else pred p ts)) q
+          ∙ head_replace E (argument ts) b
+          ∙ ap (λ z. replace (argument ts) (head_form E z)) (sym (head_skips (formula n ps b) E new (bound ps) b k.1))
 
 -- a defined predicate has the head form of its body, with the arguments put in once
 pub head_defined : (E : List Declaration) → Environment E → (p n : List ℕ) (ps : List Parameter) (b : Formula)

@@ -155,35 +155,36 @@ known_declared E (hypothesis x ∷ c) n h =
 even : (n : ℕ) → (n == n) ≡ true
 even n = grind (arith, nat_tests)
 
--- with as many arguments as there are sorts, they are what is looked at
-arguments_go : (n : ℕ) (ss : List (List ℕ)) (f : List ℕ) (ts : List (List ℕ) → Result Terms Fault) (us : Terms) → n ≡ length ss
-    → ts ss ≡ Ok us → arguments_at n ss (word f) ts ≡ Ok us
-arguments_go n ss f ts us e h =
-    ap (λ m. if m == length ss then ts ss else Err (wrong_arity nowhere)) e
-    ∙ ap (λ q. if q then ts ss else Err (wrong_arity nowhere)) (even (length ss)) ∙ h
+-- an application: its name, how many arguments, what is looked at with sorts for them, and what comes of it
+module _ (f : List ℕ) (n : ℕ) (ts : List (List ℕ) → Result Terms Fault) (us : Terms) where
+  -- with as many arguments as there are sorts, they are what is looked at
+  arguments_go : (ss : List (List ℕ)) → n ≡ length ss → ts ss ≡ Ok us → arguments_at n ss (word f) ts ≡ Ok us
+  arguments_go ss e h =
+      ap (λ m. if m == length ss then ts ss else Err (wrong_arity nowhere)) e
+      ∙ ap (λ q. if q then ts ss else Err (wrong_arity nowhere)) (even (length ss)) ∙ h
 
-term_goes : (o : Option Declaration) (f s : List ℕ) (n : ℕ) (ts : List (List ℕ) → Result Terms Fault) (us : Terms) → Gives o s
-    → n ≡ length (takes o) → ts (takes o) ≡ Ok us → term_at (declared_or_not o) (word f) n ts ≡ Ok (app f us, s)
-term_goes None f s n ts us g e h = absurd g
-term_goes (Some (sort m)) f s n ts us g e h = absurd g
-term_goes (Some (function m ss r)) f s n ts us g e h =
-    ap (λ a. and_then a (λ us. Ok (app f us, r))) (arguments_go n ss f ts us e h) ∙ ap (λ r. Ok (app f us, r)) g
-term_goes (Some (predicate m ss)) f s n ts us g e h = absurd g
-term_goes (Some (stated m a)) f s n ts us g e h = absurd g
-term_goes (Some (term m ps r b)) f s n ts us g e h =
-    ap (λ a. and_then a (λ us. Ok (app f us, r))) (arguments_go n (sorts_of ps) f ts us e h) ∙ ap (λ r. Ok (app f us, r)) g
-term_goes (Some (formula m ps b)) f s n ts us g e h = absurd g
+  term_goes : (o : Option Declaration) (s : List ℕ) → Gives o s → n ≡ length (takes o) → ts (takes o) ≡ Ok us
+      → term_at (declared_or_not o) (word f) n ts ≡ Ok (app f us, s)
+  term_goes None s g e h = absurd g
+  term_goes (Some (sort m)) s g e h = absurd g
+  term_goes (Some (function m ss r)) s g e h =
+      ap (λ a. and_then a (λ us. Ok (app f us, r))) (arguments_go ss e h) ∙ ap (λ r. Ok (app f us, r)) g
+  term_goes (Some (predicate m ss)) s g e h = absurd g
+  term_goes (Some (stated m a)) s g e h = absurd g
+  term_goes (Some (term m ps r b)) s g e h =
+      ap (λ a. and_then a (λ us. Ok (app f us, r))) (arguments_go (sorts_of ps) e h) ∙ ap (λ r. Ok (app f us, r)) g
+  term_goes (Some (formula m ps b)) s g e h = absurd g
 
-formula_goes : (o : Option Declaration) (p : List ℕ) (n : ℕ) (ts : List (List ℕ) → Result Terms Fault) (us : Terms) → IsPredicate o
-    → n ≡ length (takes o) → ts (takes o) ≡ Ok us → formula_at (declared_or_not o) (word p) n ts ≡ Ok (pred p us)
-formula_goes None p n ts us g e h = absurd g
-formula_goes (Some (sort m)) p n ts us g e h = absurd g
-formula_goes (Some (function m ss r)) p n ts us g e h = absurd g
-formula_goes (Some (predicate m ss)) p n ts us g e h = ap (λ a. and_then a (λ us. Ok (pred p us))) (arguments_go n ss p ts us e h)
-formula_goes (Some (stated m a)) p n ts us g e h = absurd g
-formula_goes (Some (term m ps r b)) p n ts us g e h = absurd g
-formula_goes (Some (formula m ps b)) p n ts us g e h =
-    ap (λ a. and_then a (λ us. Ok (pred p us))) (arguments_go n (sorts_of ps) p ts us e h)
+  formula_goes : (o : Option Declaration) → IsPredicate o → n ≡ length (takes o) → ts (takes o) ≡ Ok us
+      → formula_at (declared_or_not o) (word f) n ts ≡ Ok (pred f us)
+  formula_goes None g e h = absurd g
+  formula_goes (Some (sort m)) g e h = absurd g
+  formula_goes (Some (function m ss r)) g e h = absurd g
+  formula_goes (Some (predicate m ss)) g e h = ap (λ a. and_then a (λ us. Ok (pred f us))) (arguments_go ss e h)
+  formula_goes (Some (stated m a)) g e h = absurd g
+  formula_goes (Some (term m ps r b)) g e h = absurd g
+  formula_goes (Some (formula m ps b)) g e h =
+      ap (λ a. and_then a (λ us. Ok (pred f us))) (arguments_go (sorts_of ps) e h)
 
 sort_goes : (o : Option Declaration) (s : List ℕ) → IsSort o → sort_at (declared_or_not o) (word s) ≡ Ok s
 sort_goes None s g = absurd g
@@ -203,28 +204,40 @@ as_many E V xs nil (s ∷ ss) w = absurd w
 as_many E V xs (cons t ts) [] w = absurd w
 as_many E V xs (cons t ts) (s ∷ ss) w = ap suc (as_many E V xs ts ss w.1)
 
-mutual
-  term_typed : (E : List Declaration) (c : List Local) (taken : List (List ℕ)) → AreSeen c → (t : Term) (s : List ℕ)
-      → IsApartTerm (local_names c) taken t → HasSort E (sorts_in c) t s → term_of E c (term_tree (variables_in c) t) ≡ Ok (t, s)
-  term_typed E c taken d (var i) s h w =
-      ap (λ k. term_at k (word (name_of (variables_in c) i)) 0 (λ ss. terms_of E c made.nil ss)) (known_variable E c i s d w)
-  term_typed E c taken d (app f ts) s h w =
-      ap (λ k. term_at k (word f) (how_many (terms_tree (variables_in c) ts)) (λ ss. terms_of E c (terms_tree (variables_in c) ts) ss))
-      (known_declared E c f h.0.0)
-      ∙ term_goes (find E f) f s (how_many (terms_tree (variables_in c) ts)) (λ ss. terms_of E c (terms_tree (variables_in c) ts) ss) ts
-      w.0 (as_many E (sorts_in c) (variables_in c) ts (takes (find E f)) w.1)
-      (terms_typed E c taken d ts (takes (find E f)) h.1 w.1)
+module _ (E : List Declaration) (c : List Local) (taken : List (List ℕ)) (d : AreSeen c) where
+  mutual
+    term_typed : (t : Term) (s : List ℕ)
+        → IsApartTerm (local_names c) taken t → HasSort E (sorts_in c) t s → term_of E c (term_tree (variables_in c) t) ≡ Ok (t, s)
+    term_typed (var i) s h w =
+        ap (λ k. term_at k (word (name_of (variables_in c) i)) 0 (λ ss. terms_of E c made.nil ss)) (known_variable E c i s d w)
+    term_typed (app f ts) s h w =
+        ap (λ k. term_at k (word f) (how_many (terms_tree (variables_in c) ts)) (λ ss. terms_of E c (terms_tree (variables_in c) ts) ss))
+        (known_declared E c f h.0.0)
+        ∙ term_goes f (how_many (terms_tree (variables_in c) ts)) (λ ss. terms_of E c (terms_tree (variables_in c) ts) ss) ts
+        (find E f) s w.0 (as_many E (sorts_in c) (variables_in c) ts (takes (find E f)) w.1)
+        (terms_typed ts (takes (find E f)) h.1 w.1)
 
-  terms_typed : (E : List Declaration) (c : List Local) (taken : List (List ℕ)) → AreSeen c → (ts : Terms) (ss : List (List ℕ))
-      → AreApart (local_names c) taken ts → HaveSorts E (sorts_in c) ts ss → terms_of E c (terms_tree (variables_in c) ts) ss ≡ Ok ts
-  terms_typed E c taken d nil ss h w = refl
-  terms_typed E c taken d (cons t ts) [] h w = absurd w
-  terms_typed E c taken d (cons t ts) (s ∷ ss) h w =
-      let p = span_of (term_tree (variables_in c) t) in
-      let rest = terms_of E c (terms_tree (variables_in c) ts) ss in
-      ap (λ r. and_then (and_then r (of_sort s p)) (λ t. and_then rest (λ ts. Ok (cons t ts)))) (term_typed E c taken d t s h.0 w.0)
-      ∙ ap (λ q. and_then (if q then Ok t else Err (wrong_sort p)) (λ t. and_then rest (λ ts. Ok (cons t ts)))) (same_name s)
-      ∙ ap (λ r. and_then r (λ ts. Ok (cons t ts))) (terms_typed E c taken d ts ss h.1 w.1)
+    terms_typed : (ts : Terms) (ss : List (List ℕ))
+        → AreApart (local_names c) taken ts → HaveSorts E (sorts_in c) ts ss → terms_of E c (terms_tree (variables_in c) ts) ss ≡ Ok ts
+    terms_typed nil ss h w = refl
+    terms_typed (cons t ts) [] h w = absurd w
+    terms_typed (cons t ts) (s ∷ ss) h w =
+        let p = span_of (term_tree (variables_in c) t) in
+        let rest = terms_of E c (terms_tree (variables_in c) ts) ss in
+        ap (λ r. and_then (and_then r (of_sort s p)) (λ t. and_then rest (λ ts. Ok (cons t ts)))) (term_typed t s h.0 w.0)
+        ∙ ap (λ q. and_then (if q then Ok t else Err (wrong_sort p)) (λ t. and_then rest (λ ts. Ok (cons t ts)))) (same_name s)
+        ∙ ap (λ r. and_then r (λ ts. Ok (cons t ts))) (terms_typed ts ss h.1 w.1)
+
+  equation_typed : (s : List ℕ) (t u : Term)
+      → IsApartTerm (local_names c) taken t → IsApartTerm (local_names c) taken u → HasSort E (sorts_in c) t s → HasSort E (sorts_in c) u s
+      → and_then (term_of E c (term_tree (variables_in c) t)) (λ v. and_then (term_of E c (term_tree (variables_in c) u))
+      (λ w. equation_of (span_of (term_tree (variables_in c) u)) v w)) ≡ Ok (equal s t u)
+  equation_typed s t u h k v w =
+      let p = span_of (term_tree (variables_in c) u) in
+      let right = term_of E c (term_tree (variables_in c) u) in
+      ap (λ r. and_then r (λ v. and_then right (λ w. equation_of p v w))) (term_typed t s h v)
+      ∙ ap (λ r. and_then r (λ w. equation_of p (t, s) w)) (term_typed u s k w)
+      ∙ ap (λ q. and_then (if q then Ok u else Err (wrong_sort p)) (λ v. Ok (equal s t v))) (same_name s)
 
 -- ---- formulas
 
@@ -246,31 +259,21 @@ joined_back f r q a b h i j =
     ∙ ap (λ q. and_then q (λ y. Ok (f (Back.formula i) y))) (Back.is j))
     (h (Back.formula i) (Back.formula j) (Back.alike i) (Back.alike j))
 
-bound_back : (E : List Declaration) (c : List Local) (q : Bool) (x y s : List ℕ) (r : Expression) (a : Formula)
-    → is_among s (local_names c) ≡ false → IsSort (find E s)
-    → ((b : Formula) → Alike b a → Alike (quantifier q s y b) (quantifier q s x a)) → Back (formula_of E (variable y s ∷ c) r) a
-    → Back (formula_of E c (bound_tree q y s r)) (quantifier q s x a)
-bound_back E c q x y s r a h w k i =
-    let gs = group (word y ∷ []) (word s) ∷ [] in
-    let b = Back.formula i in
-    back (formula_of E c (bound_tree q y s r)) (quantifier q s x a) (quantifier q s y b)
-    (ap (λ k. and_then (and_then (sort_at k (word s)) (λ s. Ok (under_names s (word y ∷ []) c)))
-    (λ d. and_then (formula_of E d r) (λ b. Ok (over_groups q gs b)))) (known_declared E c s h)
-    ∙ ap (λ z. and_then (and_then z (λ s. Ok (under_names s (word y ∷ []) c)))
-    (λ d. and_then (formula_of E d r) (λ b. Ok (over_groups q gs b)))) (sort_goes (find E s) s w)
-    ∙ ap (λ z. and_then z (λ b. Ok (over_groups q gs b))) (Back.is i))
-    (k b (Back.alike i))
-
-equation_typed : (E : List Declaration) (c : List Local) (taken : List (List ℕ)) → AreSeen c → (s : List ℕ) (t u : Term)
-    → IsApartTerm (local_names c) taken t → IsApartTerm (local_names c) taken u → HasSort E (sorts_in c) t s → HasSort E (sorts_in c) u s
-    → and_then (term_of E c (term_tree (variables_in c) t)) (λ v. and_then (term_of E c (term_tree (variables_in c) u))
-    (λ w. equation_of (span_of (term_tree (variables_in c) u)) v w)) ≡ Ok (equal s t u)
-equation_typed E c taken d s t u h k v w =
-    let p = span_of (term_tree (variables_in c) u) in
-    let right = term_of E c (term_tree (variables_in c) u) in
-    ap (λ r. and_then r (λ v. and_then right (λ w. equation_of p v w))) (term_typed E c taken d t s h v)
-    ∙ ap (λ r. and_then r (λ w. equation_of p (t, s) w)) (term_typed E c taken d u s k w)
-    ∙ ap (λ q. and_then (if q then Ok u else Err (wrong_sort p)) (λ v. Ok (equal s t v))) (same_name s)
+-- a sort that no local hides
+module _ (E : List Declaration) (c : List Local) (s : List ℕ) (h : is_among s (local_names c) ≡ false) (w : IsSort (find E s)) where
+  bound_back : (q : Bool) (x y : List ℕ) (r : Expression) (a : Formula)
+      → ((b : Formula) → Alike b a → Alike (quantifier q s y b) (quantifier q s x a)) → Back (formula_of E (variable y s ∷ c) r) a
+      → Back (formula_of E c (bound_tree q y s r)) (quantifier q s x a)
+  bound_back q x y r a k i =
+      let gs = group (word y ∷ []) (word s) ∷ [] in
+      let b = Back.formula i in
+      back (formula_of E c (bound_tree q y s r)) (quantifier q s x a) (quantifier q s y b)
+      (ap (λ k. and_then (and_then (sort_at k (word s)) (λ s. Ok (under_names s (word y ∷ []) c)))
+      (λ d. and_then (formula_of E d r) (λ b. Ok (over_groups q gs b)))) (known_declared E c s h)
+      ∙ ap (λ z. and_then (and_then z (λ s. Ok (under_names s (word y ∷ []) c)))
+      (λ d. and_then (formula_of E d r) (λ b. Ok (over_groups q gs b)))) (sort_goes (find E s) s w)
+      ∙ ap (λ z. and_then z (λ b. Ok (over_groups q gs b))) (Back.is i))
+      (k b (Back.alike i))
 
 -- under a binder no variable is hidden
 seen_under : (c : List Local) (taken : List (List ℕ)) (x s : List ℕ) → AreSeen c
@@ -286,7 +289,7 @@ formula_typed E taken (pred p ts) c d h w =
     let ys = terms_tree (variables_in c) ts in
     back (formula_of E c (formula_tree (variables_in c) taken (pred p ts))) (pred p ts) (pred p ts)
     (ap (λ k. formula_at k (word p) (how_many ys) (λ ss. terms_of E c ys ss)) (known_declared E c p h.0.0)
-    ∙ formula_goes (find E p) p (how_many ys) (λ ss. terms_of E c ys ss) ts w.0
+    ∙ formula_goes p (how_many ys) (λ ss. terms_of E c ys ss) ts (find E p) w.0
     (as_many E (sorts_in c) (variables_in c) ts (takes (find E p)) w.1) (terms_typed E c taken d ts (takes (find E p)) h.1 w.1))
     refl
 formula_typed E taken (equal s t u) c d h w =
@@ -304,12 +307,12 @@ formula_typed E taken (implies a b) c d h w =
     (λ e f i j t. implies (i t) (j t)) (formula_typed E taken a c d h.0 w.0) (formula_typed E taken b c d h.1 w.1)
 formula_typed E taken (all s x a) c d h w =
     let y = bound_name (variables_in c) taken x in
-    bound_back E c true x y s (formula_tree (y ∷ variables_in c) taken a) a h.0.0 w.0 (λ b i t. all s [] (i t))
+    bound_back E c s h.0.0 w.0 true x y (formula_tree (y ∷ variables_in c) taken a) a (λ b i t. all s [] (i t))
     (formula_typed E taken a (variable y s ∷ c) (seen_under c taken x s d)
     (formula_apart_more (local_names c) taken y a (picked_free (variables_in c) taken x) h.1) w.1)
 formula_typed E taken (ex s x a) c d h w =
     let y = bound_name (variables_in c) taken x in
-    bound_back E c false x y s (formula_tree (y ∷ variables_in c) taken a) a h.0.0 w.0 (λ b i t. ex s [] (i t))
+    bound_back E c s h.0.0 w.0 false x y (formula_tree (y ∷ variables_in c) taken a) a (λ b i t. ex s [] (i t))
     (formula_typed E taken a (variable y s ∷ c) (seen_under c taken x s d)
     (formula_apart_more (local_names c) taken y a (picked_free (variables_in c) taken x) h.1) w.1)
 
@@ -348,27 +351,24 @@ typed_once E c text a b (t, x, e, i, k) (u, y, f, j, m) =
 
 -- ---- where each declared name stands apart, each name of a well formed formula does
 
-gives_some : (E : List Declaration) (c : List Local) (taken : List (List ℕ)) (f s : List ℕ) → AreDeclaredApart E c taken
-    → (o : Option Declaration) → find E f ≡ o → Gives o s → IsApart (local_names c) taken f
-gives_some E c taken f s h None e g = absurd g
-gives_some E c taken f s h (Some d) e g = h f d e
-
-predicate_some : (E : List Declaration) (c : List Local) (taken : List (List ℕ)) (f : List ℕ) → AreDeclaredApart E c taken
-    → (o : Option Declaration) → find E f ≡ o → IsPredicate o → IsApart (local_names c) taken f
-predicate_some E c taken f h None e g = absurd g
-predicate_some E c taken f h (Some d) e g = h f d e
-
-sort_some : (E : List Declaration) (c : List Local) (taken : List (List ℕ)) (f : List ℕ) → AreDeclaredApart E c taken
-    → (o : Option Declaration) → find E f ≡ o → IsSort o → IsApart (local_names c) taken f
-sort_some E c taken f h None e g = absurd g
-sort_some E c taken f h (Some d) e g = h f d e
-
 module _ (E : List Declaration) (c : List Local) (taken : List (List ℕ)) (h : AreDeclaredApart E c taken) where
+  gives_some : (f s : List ℕ) (o : Option Declaration) → find E f ≡ o → Gives o s → IsApart (local_names c) taken f
+  gives_some f s None e g = absurd g
+  gives_some f s (Some d) e g = h f d e
+
+  predicate_some : (f : List ℕ) (o : Option Declaration) → find E f ≡ o → IsPredicate o → IsApart (local_names c) taken f
+  predicate_some f None e g = absurd g
+  predicate_some f (Some d) e g = h f d e
+
+  sort_some : (f : List ℕ) (o : Option Declaration) → find E f ≡ o → IsSort o → IsApart (local_names c) taken f
+  sort_some f None e g = absurd g
+  sort_some f (Some d) e g = h f d e
+
   mutual
     pub term_stands_apart : (t : Term) (V : List (List ℕ)) (s : List ℕ) → HasSort E V t s → IsApartTerm (local_names c) taken t
     term_stands_apart (var i) V s w = tt
     term_stands_apart (app f ts) V s w =
-        (gives_some E c taken f s h (find E f) refl w.0, terms_stand_apart ts V (takes (find E f)) w.1)
+        (gives_some f s (find E f) refl w.0, terms_stand_apart ts V (takes (find E f)) w.1)
 
     terms_stand_apart : (ts : Terms) (V ss : List (List ℕ)) → HaveSorts E V ts ss → AreApart (local_names c) taken ts
     terms_stand_apart nil V ss w = tt
@@ -378,10 +378,10 @@ module _ (E : List Declaration) (c : List Local) (taken : List (List ℕ)) (h : 
   pub formula_stands_apart : (a : Formula) (V : List (List ℕ)) → WellFormed E V a → IsApartFormula (local_names c) taken a
   formula_stands_apart truth V w = tt
   formula_stands_apart falsity V w = tt
-  formula_stands_apart (pred p ts) V w = (predicate_some E c taken p h (find E p) refl w.0, terms_stand_apart ts V (takes (find E p)) w.1)
+  formula_stands_apart (pred p ts) V w = (predicate_some p (find E p) refl w.0, terms_stand_apart ts V (takes (find E p)) w.1)
   formula_stands_apart (equal s t u) V w = (term_stands_apart t V s w.1, term_stands_apart u V s w.2)
   formula_stands_apart (both a b) V w = (formula_stands_apart a V w.0, formula_stands_apart b V w.1)
   formula_stands_apart (either a b) V w = (formula_stands_apart a V w.0, formula_stands_apart b V w.1)
   formula_stands_apart (implies a b) V w = (formula_stands_apart a V w.0, formula_stands_apart b V w.1)
-  formula_stands_apart (all s x a) V w = (sort_some E c taken s h (find E s) refl w.0, formula_stands_apart a (s ∷ V) w.1)
-  formula_stands_apart (ex s x a) V w = (sort_some E c taken s h (find E s) refl w.0, formula_stands_apart a (s ∷ V) w.1)
+  formula_stands_apart (all s x a) V w = (sort_some s (find E s) refl w.0, formula_stands_apart a (s ∷ V) w.1)
+  formula_stands_apart (ex s x a) V w = (sort_some s (find E s) refl w.0, formula_stands_apart a (s ∷ V) w.1)

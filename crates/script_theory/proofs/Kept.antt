@@ -44,30 +44,30 @@ sized_is (Some w) x y e = absurd (none_ok _ y e)
 
 -- ---- what is declared or begun may be added
 
-declaration_follows : (E : List Declaration) → InOrder E → (x : Name) → (x.text ≡ [] → ⊥) → (y : Shape) (d : Declaration) →
-    declaration E x y ≡ Ok d → InOrder (d ∷ E)
-declaration_follows E o x n y d e =
-    let j = both_steps (from_elaboration (declaration_of E x y)) (λ c. sized (large_declaration E c) c) d e in
-    subst (λ z. InOrder (z ∷ E)) (sized_is (large_declaration E j.0) j.0 d j.2)
-    (declaration_ordered E o x n y j.0 (elaborated (declaration_of E x y) j.0 j.1))
+module _ (E : List Declaration) (o : InOrder E) (x : Name) (n : x.text ≡ [] → ⊥) where
+  declaration_follows : (y : Shape) (d : Declaration) → declaration E x y ≡ Ok d → InOrder (d ∷ E)
+  declaration_follows y d e =
+      let j = both_steps (from_elaboration (declaration_of E x y)) (λ c. sized (large_declaration E c) c) d e in
+      subst (λ z. InOrder (z ∷ E)) (sized_is (large_declaration E j.0) j.0 d j.2)
+      (declaration_ordered E o x n y j.0 (elaborated (declaration_of E x y) j.0 j.1))
 
-definition_follows : (E : List Declaration) → InOrder E → (x : Name) → (x.text ≡ [] → ⊥) → (gs : List Group) (r : Option Name)
-    (a : Expression) (d : Declaration) → definition E x gs r a ≡ Ok d → InOrder (d ∷ E)
-definition_follows E o x n gs r a d e =
-    let j = both_steps (from_elaboration (definition_of E x gs r a)) (λ c. sized (large_declaration E c) c) d e in
-    subst (λ z. InOrder (z ∷ E)) (sized_is (large_declaration E j.0) j.0 d j.2)
-    (definition_ordered E o x n gs r a j.0 (elaborated (definition_of E x gs r a) j.0 j.1))
+  definition_follows : (gs : List Group) (r : Option Name) (a : Expression) (d : Declaration) → definition E x gs r a ≡ Ok d →
+      InOrder (d ∷ E)
+  definition_follows gs r a d e =
+      let j = both_steps (from_elaboration (definition_of E x gs r a)) (λ c. sized (large_declaration E c) c) d e in
+      subst (λ z. InOrder (z ∷ E)) (sized_is (large_declaration E j.0) j.0 d j.2)
+      (definition_ordered E o x n gs r a j.0 (elaborated (definition_of E x gs r a) j.0 j.1))
 
-lemma_follows : (E : List Declaration) → InOrder E → (x : Name) → (x.text ≡ [] → ⊥) → (a : Expression) (w : List ℕ × Formula) →
-    lemma E x a ≡ Ok w → InOrder (stated w.0 w.1 ∷ E)
-lemma_follows E o x n a w e =
-    let j = both_steps (from_elaboration (statement_of E x a)) (λ b. sized (large E b) (x.text, b)) w e in
-    subst (λ (z : List ℕ × Formula). InOrder (stated z.0 z.1 ∷ E)) (sized_is (large E j.0) (x.text, j.0) w j.2)
-    (statement_ordered E o x n a j.0 (elaborated (statement_of E x a) j.0 j.1))
+  lemma_follows : (a : Expression) (w : List ℕ × Formula) → lemma E x a ≡ Ok w → InOrder (stated w.0 w.1 ∷ E)
+  lemma_follows a w e =
+      let j = both_steps (from_elaboration (statement_of E x a)) (λ b. sized (large E b) (x.text, b)) w e in
+      subst (λ (z : List ℕ × Formula). InOrder (stated z.0 z.1 ∷ E)) (sized_is (large E j.0) (x.text, j.0) w j.2)
+      (statement_ordered E o x n a j.0 (elaborated (statement_of E x a) j.0 j.1))
 
 -- ---- what each sentence keeps
 
-with_in_order : (E : List Declaration) (a : Option (List ℕ × Formula)) (s : State) → InOrder E → OpenKept E a s → InOrder (with_statement E a)
+with_in_order : (E : List Declaration) (a : Option (List ℕ × Formula)) (s : State) → InOrder E → OpenKept E a s →
+    InOrder (with_statement E a)
 with_in_order E None s o k = o
 with_in_order E (Some w) s o k = k.0
 
@@ -95,36 +95,37 @@ begun_kept : (id : ℕ) (E : List Declaration) (r : Result (List ℕ × Formula)
 begun_kept id E (Ok w) o f = (o, ((f w refl, opens_itself E (goal [] w.1)), tt))
 begun_kept id E (Err e) o f = (o, (tt, tt))
 
-open_step : (E : List Declaration) (a : Option (List ℕ × Formula)) (x : Inner sentence.Refinement) (s u : State) → InOrder E → OpenKept E a s →
-    run_one (large E) (typed E) E x s ≡ Ok u → OpenKept E a u
+open_step : (E : List Declaration) (a : Option (List ℕ × Formula)) (x : Inner sentence.Refinement) (s u : State) → InOrder E →
+    OpenKept E a s → run_one (large E) (typed E) E x s ≡ Ok u → OpenKept E a u
 open_step E None x s u o k e = tt
 open_step E (Some w) x s u o k e =
     (k.0, one_fits (large E) (typed E) E (lawful E o) (λ g z r h j. refinement_typed E o g h z r j) (goal [] w.1) (tt, k.0.0.1) x s u k.1 e)
 
-stepped_kept : (id : ℕ) (E : List Declaration) (p : Open) (r : Result State StepFault) → InOrder E → OpenKept E p.statement p.goals →
-    HasFault p.statement None → ((u : State) → r ≡ Ok u → OpenKept E p.statement u) → IsKept (stepped id E p r).0
-stepped_kept id E p (Ok u) o k h f = (o, (f u refl, h))
-stepped_kept id E p (Err e) o k h f = (o, (k, now p.statement))
-  where
-    now : (a : Option (List ℕ × Formula)) → HasFault a (Some id)
-    now None = tt
-    now (Some w) = tt
+module _ (id : ℕ) (E : List Declaration) (p : Open) (o : InOrder E) (k : OpenKept E p.statement p.goals) where
+  stepped_kept : (r : Result State StepFault) → HasFault p.statement None →
+      ((u : State) → r ≡ Ok u → OpenKept E p.statement u) → IsKept (stepped id E p r).0
+  stepped_kept (Ok u) h f = (o, (f u refl, h))
+  stepped_kept (Err e) h f = (o, (k, now p.statement))
+    where
+      now : (a : Option (List ℕ × Formula)) → HasFault a (Some id)
+      now None = tt
+      now (Some w) = tt
 
-inner_kept : (id : ℕ) (E : List Declaration) (p : Open) (f : Option ℕ) (x : Inner sentence.Refinement) → InOrder E → p.fault ≡ f →
-    OpenKept E p.statement p.goals → HasFault p.statement p.fault → IsKept (inner_at id E p f x).0
-inner_kept id E p (Some f) x o q k h = (o, (k, h))
-inner_kept id E p None x o q k h = stepped_kept id E p (run_one (large E) (typed E) E x p.goals) o k (subst (HasFault p.statement) q h)
-    (λ u e. open_step E p.statement x p.goals u o k e)
+  inner_kept : (f : Option ℕ) (x : Inner sentence.Refinement) → p.fault ≡ f → HasFault p.statement p.fault → IsKept (inner_at id E p f x).0
+  inner_kept (Some f) x q h = (o, (k, h))
+  inner_kept None x q h = stepped_kept (run_one (large E) (typed E) E x p.goals) (subst (HasFault p.statement) q h)
+      (λ u e. open_step E p.statement x p.goals u o k e)
 
-at_kept : (id : ℕ) (E : List Declaration) (p : Option Open) (x : Sentence) → IsNamed x → InOrder E → ProofKept E p → IsKept (one_at id E p x).0
+at_kept : (id : ℕ) (E : List Declaration) (p : Option Open) (x : Sentence) → IsNamed x → InOrder E → ProofKept E p →
+    IsKept (one_at id E p x).0
 at_kept id E None (declare x y) n o k = declared_kept E (declaration E x y) o (λ d e. declaration_follows E o x n y d e)
 at_kept id E None (define x gs r a) n o k = declared_kept E (definition E x gs r a) o (λ d e. definition_follows E o x n gs r a d e)
 at_kept id E None (begin x a) n o k = begun_kept id E (lemma E x a) o (λ w e. lemma_follows E o x n a w e)
-at_kept id E (Some p) proof_word n o k = inner_kept id E p p.fault proof o refl k.0 k.1
-at_kept id E (Some p) (refinement r) n o k = inner_kept id E p p.fault (inner_of r) o refl k.0 k.1
-at_kept id E (Some p) (bullet b m) n o k = inner_kept id E p p.fault (by_bullet (bytes_of m b)) o refl k.0 k.1
-at_kept id E (Some p) brace_in n o k = inner_kept id E p p.fault open_brace o refl k.0 k.1
-at_kept id E (Some p) brace_out n o k = inner_kept id E p p.fault close_brace o refl k.0 k.1
+at_kept id E (Some p) proof_word n o k = inner_kept id E p o k.0 p.fault proof refl k.1
+at_kept id E (Some p) (refinement r) n o k = inner_kept id E p o k.0 p.fault (inner_of r) refl k.1
+at_kept id E (Some p) (bullet b m) n o k = inner_kept id E p o k.0 p.fault (by_bullet (bytes_of m b)) refl k.1
+at_kept id E (Some p) brace_in n o k = inner_kept id E p o k.0 p.fault open_brace refl k.1
+at_kept id E (Some p) brace_out n o k = inner_kept id E p o k.0 p.fault close_brace refl k.1
 at_kept id E (Some p) (close c) n o k = (closed_kept c E p (closing_verdict c p.goals p.fault) o k.0, tt)
 at_kept id E p x n o k = (o, k)
 
@@ -138,27 +139,28 @@ all_kept (w ∷ ws) s n k = all_kept ws (one s w.0 w.1).0 n.1 (one_kept s w.0 w.
 
 -- ---- a good closer
 
-proved_by : (E : List Declaration) (a : Option (List ℕ × Formula)) (s : State) (f : Option ℕ) → InOrder E → OpenKept E a s → HasFault a f →
-    f ≡ None → (r : Result State StepFault) → states.qed s ≡ r → qed_verdict r ≡ good → StatementProved E a
-proved_by E a s f o k h q (Err e) p v = absurd cc
-proved_by E None s f o k h q (Ok u) p v = subst (HasFault None) q h
-proved_by E (Some w) s f o k h q (Ok u) p v = opens_sound E (goal [] w.1) []
-    (subst (Leads E (sequent (goal [] w.1) ∷ [])) (qed_done (goals_of s) (find_brace s.frames) u p) k.1) (tt, k.0.0.1) tt
+module _ (E : List Declaration) (o : InOrder E) where
+  proved_by : (a : Option (List ℕ × Formula)) (s : State) → OpenKept E a s → HasFault a None → (r : Result State StepFault) →
+      states.qed s ≡ r → qed_verdict r ≡ good → StatementProved E a
+  proved_by a s k h (Err e) p v = absurd cc
+  proved_by None s k h (Ok u) p v = h
+  proved_by (Some w) s k h (Ok u) p v = opens_sound E (goal [] w.1) []
+      (subst (Leads E (sequent (goal [] w.1) ∷ [])) (qed_done (goals_of s) (find_brace s.frames) u p) k.1) (tt, k.0.0.1) tt
 
-good_closer : (c : Closer) (E : List Declaration) (p : Open) → (c ≡ qed) ⊎ (c ≡ defined) → InOrder E → ProofKept E (Some p) →
-    (f : Option ℕ) → p.fault ≡ f → closing_verdict c p.goals f ≡ good → StatementProved E p.statement
-good_closer c E p h o k (Some f) q v = absurd cc
-good_closer qed E p h o k None q v = proved_by E p.statement p.goals p.fault o k.0 k.1 q (states.qed p.goals) refl v
-good_closer defined E p h o k None q v = proved_by E p.statement p.goals p.fault o k.0 k.1 q (states.qed p.goals) refl v
-good_closer admitted E p (inl h) o k None q v = absurd cc
-good_closer admitted E p (inr h) o k None q v = absurd cc
-good_closer abort E p (inl h) o k None q v = absurd cc
-good_closer abort E p (inr h) o k None q v = absurd cc
+  good_closer : (c : Closer) (p : Open) → (c ≡ qed) ⊎ (c ≡ defined) → ProofKept E (Some p) → (f : Option ℕ) → p.fault ≡ f →
+      closing_verdict c p.goals f ≡ good → StatementProved E p.statement
+  good_closer c p h k (Some f) q v = absurd cc
+  good_closer qed p h k None q v = proved_by p.statement p.goals k.0 (subst (HasFault p.statement) q k.1) (states.qed p.goals) refl v
+  good_closer defined p h k None q v = proved_by p.statement p.goals k.0 (subst (HasFault p.statement) q k.1) (states.qed p.goals) refl v
+  good_closer admitted p (inl h) k None q v = absurd cc
+  good_closer admitted p (inr h) k None q v = absurd cc
+  good_closer abort p (inl h) k None q v = absurd cc
+  good_closer abort p (inr h) k None q v = absurd cc
 
 at_proved : (id : ℕ) (E : List Declaration) (p : Option Open) (c : Closer) → (c ≡ qed) ⊎ (c ≡ defined) → InOrder E → ProofKept E p →
     (one_at id E p (close c)).1 ≡ good → IsProved E p
 at_proved id E None c h o k v = absurd cc
-at_proved id E (Some p) c h o k v = good_closer c E p h o k p.fault refl v
+at_proved id E (Some p) c h o k v = good_closer E o c p h k p.fault refl v
 
 -- a Qed or Defined that is good behind any sentences: its statement has a derivation
 pub good_is_proved : (ws : List (ℕ × Sentence)) → AreNamed ws → (id : ℕ) (c : Closer) → (c ≡ qed) ⊎ (c ≡ defined) →
@@ -229,16 +231,17 @@ inners_named (w ∷ ws) i = (go w.1 i.0, inners_named ws i.1)
     go (begin x b) j = absurd j
     go (close c) j = absurd j
 
--- a block behind any sentences: if its closer is good, its statement has a derivation over the environment before its lemma
-pub block_is_proved : (before : List (ℕ × Sentence)) → AreNamed before → (id : ℕ) (x : Name) → (x.text ≡ [] → ⊥) → (a : Expression)
-    (w : List ℕ × Formula) (ws : List (ℕ × Sentence)) → AreInner ws → (closer_id : ℕ) (c : Closer) → (c ≡ qed) ⊎ (c ≡ defined) →
-    (state_behind before empty).proof ≡ None → lemma (state_behind before empty).env x a ≡ Ok w →
-    (one (state_behind ws (one (state_behind before empty) id (begin x a)).0) closer_id (close c)).1 ≡ good →
-    Derives (state_behind before empty).env [] [] w.1
-block_is_proved before named id x nx a w ws i closer_id c h n e v =
-    let s : Script = state_behind before empty in
-    let u : Script = (one s id (begin x a)).0 in
-    let last : Script = state_behind ws u in
-    let k : IsKept last = all_kept ws u (inners_named ws i) (one_kept s id (begin x a) nx (all_kept before empty named ((tt, tt), tt))) in
-    let j = inners_stay ws i s.env (Some w) u (begin_in id s.env s.proof x a w n e) in
-    proved_in s.env w last.env last.proof j.0 j.1 (at_proved closer_id last.env last.proof c h k.0 k.1 v)
+module _ (before : List (ℕ × Sentence)) (named : AreNamed before) (id : ℕ) (x : Name) (nx : x.text ≡ [] → ⊥) (a : Expression)
+    (w : List ℕ × Formula) where
+  -- a block behind any sentences: if its closer is good, its statement has a derivation over the environment before its lemma
+  pub block_is_proved : (ws : List (ℕ × Sentence)) → AreInner ws → (closer_id : ℕ) (c : Closer) → (c ≡ qed) ⊎ (c ≡ defined) →
+      (state_behind before empty).proof ≡ None → lemma (state_behind before empty).env x a ≡ Ok w →
+      (one (state_behind ws (one (state_behind before empty) id (begin x a)).0) closer_id (close c)).1 ≡ good →
+      Derives (state_behind before empty).env [] [] w.1
+  block_is_proved ws i closer_id c h n e v =
+      let s : Script = state_behind before empty in
+      let u : Script = (one s id (begin x a)).0 in
+      let last : Script = state_behind ws u in
+      let k : IsKept last = all_kept ws u (inners_named ws i) (one_kept s id (begin x a) nx (all_kept before empty named ((tt, tt), tt))) in
+      let j = inners_stay ws i s.env (Some w) u (begin_in id s.env s.proof x a w n e) in
+      proved_in s.env w last.env last.proof j.0 j.1 (at_proved closer_id last.env last.proof c h k.0 k.1 v)

@@ -126,17 +126,18 @@ pub ruleset judging = (judged_good)
 new_of : (E : List Declaration) (d : Declaration) → Environment (d ∷ E) → IsNew E d
 new_of E d e = (e.0, e.1)
 
-pub typed_declares : (E : List Declaration) → Environment E → (x : Name) (y : Shape) (r : Result Decl ElabFault)
-    → Types r (declaration_of E x y) → (d : Decl) → r ≡ Ok d → Declares E (declaration d)
-typed_declares E v x y r t d e =
-    let u = subst (λ r. Types r (declaration_of E x y)) e t in
-    (declaration_admitted E v x y (declaration d) u.0).1
+module _ (E : List Declaration) (v : Environment E) (x : Name) where
+  pub typed_declares : (y : Shape) (r : Result Decl ElabFault) → Types r (declaration_of E x y) → (d : Decl) → r ≡ Ok d
+      → Declares E (declaration d)
+  typed_declares y r t d e =
+      let u = subst (λ r. Types r (declaration_of E x y)) e t in
+      (declaration_admitted E v x y (declaration d) u.0).1
 
-pub typed_defines : (E : List Declaration) → Environment E → (x : Name) (gs : List Group) (r : Option Name) (a : Expression)
-    (t : Result Decl ElabFault) → Types t (definition_of E x gs r a) → (d : Decl) → t ≡ Ok d → Declares E (declaration d)
-typed_defines E v x gs r a t u d e =
-    let w = subst (λ t. Types t (definition_of E x gs r a)) e u in
-    (definition_admitted E v x gs r a (declaration d) w.0).1
+  pub typed_defines : (gs : List Group) (r : Option Name) (a : Expression) (t : Result Decl ElabFault)
+      → Types t (definition_of E x gs r a) → (d : Decl) → t ≡ Ok d → Declares E (declaration d)
+  typed_defines gs r a t u d e =
+      let w = subst (λ t. Types t (definition_of E x gs r a)) e u in
+      (definition_admitted E v x gs r a (declaration d) w.0).1
 
 step_never : {A : Type 0} (e : StepFault) (x : A) → Path (Result A StepFault) (Err e) (Ok x) → ⊥
 step_never {A} e x h = cc

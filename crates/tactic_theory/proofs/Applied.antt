@@ -245,7 +245,7 @@ module _ (E : List Declaration) (l : Lawful E) (c : List Slot) (g : Formula) (f 
   apply_leads a k s ts st fit o =
       let V : List (List ℕ) = variables (entries c) in
       let m = stripped_formed E l V a s k.0 st in
-      let fits : Fits E (fill ts) (s.sorts ++ V) V = fits_instance E l s.sorts V (normal E s.rest) (normal E g) ts fit
+      let fits : Fits E (fill ts) (s.sorts ++ V) V = fits_instance E s.sorts V ts (normal E s.rest) (normal E g) fit
       (l.normal_formed (s.sorts ++ V) s.rest m) (l.normal_formed V g w) (λ i h. formula_occurs i (normal E s.rest)
       (below_all (length s.sorts) (λ j. occurs j (normal E s.rest)) o i h)) in
       subst (Leads E (seq (entries c) g ∷ [])) (sym (premise_parts_goals c ts s.premises))
@@ -275,47 +275,84 @@ module _ (E : List Declaration) (l : Lawful E) (c : List Slot) (g : Formula) (f 
       go (Err z) q d = absurd cc
       go (Ok a) q d = found a q (fitting E g (all_strips E a)) refl d
 
-  -- an open variable that occurs in a pattern other than an open variable
-  open_sort : (n : ℕ) (W : List (List ℕ)) (σ : ℕ → Term) (p : Term) (q s r : List ℕ) (i : ℕ) → is_open n p ≡ false → i < n →
-      At W i r → HasSort E W p q → HasSort E (variables (entries c)) (replace_term σ p) s → OccursInTerm i p →
-      HasSort E (variables (entries c)) (σ i) r
-  open_sort n W σ (var j) q s r i b h a x y o = absurd (outside (subst (λ k. k < n) o h))
-    where
-      outside : j < n → ⊥
-      outside k = grind (arith, nat_tests, b)
-  open_sort n W σ (app m ts) q s r i b h a x y o = put_in_sorts E l σ (variables (entries c)) W i r a ts (takes (find E m)) x.1 y.1 o
+  -- the open variable i, of sort r, under n in W, with σ for the open ones
+  module _ (n : ℕ) (W : List (List ℕ)) (σ : ℕ → Term) (i : ℕ) (r : List ℕ) (h : i < n) (a : At W i r) where
+    -- where it occurs in a pattern other than an open variable
+    open_sort : (p : Term) (q s : List ℕ) → is_open n p ≡ false → HasSort E W p q → HasSort E (variables (entries c)) (replace_term σ p) s →
+        OccursInTerm i p → HasSort E (variables (entries c)) (σ i) r
+    open_sort (var j) q s b x y o = absurd (outside (subst (λ k. k < n) o h))
+      where
+        outside : j < n → ⊥
+        outside k = grind (arith, nat_tests, b)
+    open_sort (app m ts) q s b x y o = put_in_sorts E σ (variables (entries c)) W i r a ts (takes (find E m)) x.1 y.1 o
 
-  -- an equation whose left side is the pattern, with a tree for its instance
-  rewrite_leads : (n : ℕ) (W : List (List ℕ)) (p o : Term) (q : List ℕ) (ts : List Term) (hs : List Goal)
-      → n ≡ length W → IsFirst n p (places 0 g) ts → is_open n p ≡ false → all_below n (λ i. occurs_in_term i p) ≡ true
-      → HasSort E (W ++ variables (entries c)) p q → HasSort E (W ++ variables (entries c)) o q
-      → (Fits E (fill ts) (W ++ variables (entries c)) (variables (entries c)) →
-      Leads E (seq (entries c) (equal q (replace_term (fill ts) p) (replace_term (fill ts) o)) ∷ []) hs)
-      → Leads E (seq (entries c) g ∷ []) (goal c (instantiate (abstracted 0 (replace_term (fill ts) p) g) (replace_term (fill ts) o)) ∷ hs)
-  rewrite_leads n W p o q ts hs e first b occ x y lead =
-      let V : List (List ℕ) = variables (entries c) in
-      let P : Term = replace_term (fill ts) p in
-      let O : Term = replace_term (fill ts) o in
-      let sorted : Every (PlaceSorted E V) (first.before ++ first.place ∷ first.behind) = subst (Every (PlaceSorted E V))
-      first.whole (places_sorted E [] V 0 g refl w) in
-      let at = (every_back (PlaceSorted E V) first.before (first.place ∷ first.behind) sorted).0 in
-      let k = instance_sort E V n p ts first.place at first.is in
-      let fits : Fits E (fill ts) (W ++ V) V = fits_filled E W V ts (first.is.0 ∙ e) (λ i s h a. open_sort n (W ++ V) (fill ts)
-      p q k.0 s i b (subst (λ m. i < m) (sym e) h) a x k.1
-      (term_occurs i p (below_all n (λ j. occurs_in_term j p) occ i (subst (λ m. i < m) (sym e) h)))) in
-      let sp : HasSort E V P q = replace_sort E (fill ts) (W ++ V) V fits p q x in
-      let so : HasSort E V O q = replace_sort E (fill ts) (W ++ V) V fits o q y in
-      by_rule (eq_e q (abstracted 0 P g) P O) (entries c) g (
-        sort_declared E l (entries c) P q f sp,
-        abstracted_formed E l V P q sp [] g w,
-        (
+  not_true : (b : Bool) → not b ≡ true → b ≡ false
+  not_true true e = absurd cc
+  not_true false e = refl
+
+  -- the left and right side of a strip's equation, either way round
+  module _ (s : Strip) (p o : Term) (q : List ℕ) where
+    -- an equation whose left side is the pattern, with a tree for its instance
+    rewrite_leads : (ts : List Term) (hs : List Goal) → IsFirst (length s.sorts) p (places 0 g) ts → is_open (length s.sorts) p ≡ false
+        → all_below (length s.sorts) (λ i. occurs_in_term i p) ≡ true
+        → HasSort E (s.sorts ++ variables (entries c)) p q → HasSort E (s.sorts ++ variables (entries c)) o q
+        → (Fits E (fill ts) (s.sorts ++ variables (entries c)) (variables (entries c)) →
+        Leads E (seq (entries c) (equal q (replace_term (fill ts) p) (replace_term (fill ts) o)) ∷ []) hs)
+        → Leads E (seq (entries c) g ∷ [])
+        (goal c (instantiate (abstracted 0 (replace_term (fill ts) p) g) (replace_term (fill ts) o)) ∷ hs)
+    rewrite_leads ts hs first b occ x y lead =
+        let V : List (List ℕ) = variables (entries c) in
+        let W : List (List ℕ) = s.sorts in
+        let n : ℕ = length W in
+        let P : Term = replace_term (fill ts) p in
+        let O : Term = replace_term (fill ts) o in
+        let sorted : Every (PlaceSorted E V) (first.before ++ first.place ∷ first.behind) = subst (Every (PlaceSorted E V))
+        first.whole (places_sorted E [] V 0 g refl w) in
+        let at = (every_back (PlaceSorted E V) first.before (first.place ∷ first.behind) sorted).0 in
+        let k = instance_sort E V n p ts first.place at first.is in
+        let fits : Fits E (fill ts) (W ++ V) V = fits_filled E W V ts first.is.0 (λ i r h a.
+        open_sort n (W ++ V) (fill ts) i r h a p q k.0 b x k.1
+        (term_occurs i p (below_all n (λ j. occurs_in_term j p) occ i h))) in
+        let sp : HasSort E V P q = replace_sort E (fill ts) (W ++ V) V fits p q x in
+        let so : HasSort E V O q = replace_sort E (fill ts) (W ++ V) V fits o q y in
+        by_rule (eq_e q (abstracted 0 P g) P O) (entries c) g (
           sort_declared E l (entries c) P q f sp,
-          sp,
-          so,
-        ),
-        ap (λ z. unnamed (normal E z)) (abstracted_back P g),
-      )
-      (left_open c (instantiate (abstracted 0 P g) O) (lead fits))
+          abstracted_formed E l V P q sp [] g w,
+          (
+            sort_declared E l (entries c) P q f sp,
+            sp,
+            so,
+          ),
+          ap (λ z. unnamed (normal E z)) (abstracted_back P g),
+        )
+        (left_open c (instantiate (abstracted 0 P g) O) (lead fits))
+
+    rewrite_found_to : (met : Bool) →
+        (met ≡ true → HasSort E (s.sorts ++ variables (entries c)) p q × HasSort E (s.sorts ++ variables (entries c)) o q)
+        → (met ≡ true → (ts : List Term) → length ts ≡ length s.sorts → Fits E (fill ts) (s.sorts ++ variables (entries c))
+        (variables (entries c)) → Leads E (seq (entries c) (equal q (replace_term (fill ts) p) (replace_term (fill ts) o))
+        ∷ []) (premise_goals c (fill ts) s.premises))
+        → (v : Option (List Term)) → find_instance (length s.sorts) p g ≡ v → (ps : List Part) → rewrite_found c met s p o g v
+        ≡ Ok ps → Reaches ps
+    rewrite_found_to met x lead None r ps d = absurd cc
+    rewrite_found_to met x lead (Some ts) r ps d =
+        tests (met && (not (is_open (length s.sorts) p) && all_below (length s.sorts) (λ i. occurs_in_term i p))) refl d
+      where
+        new : Part
+        new = part [] c (instantiate (abstracted 0 (replace_term (fill ts) p) g) (replace_term (fill ts) o))
+
+        tests : (v : Bool) → (met && (not (is_open (length s.sorts) p) && all_below (length s.sorts) (λ i. occurs_in_term i p)))
+            ≡ v → if_met v (new ∷ premise_parts c ts s.premises) ≡ Ok ps → Reaches ps
+        tests false b d = absurd cc
+        tests true b d =
+            let b1 = both_true met (not (is_open (length s.sorts) p) && all_below (length s.sorts) (λ i. occurs_in_term i p)) b in
+            let b2 = both_true (not (is_open (length s.sorts) p)) (all_below (length s.sorts) (λ i. occurs_in_term i p)) b1.1 in
+            let first = first_sound (length s.sorts) p (places 0 g) ts r in
+            let h = x b1.0 in
+            subst Reaches (ok_injective (new ∷ premise_parts c ts s.premises) ps d)
+            (subst (λ hs. Leads E (seq (entries c) g ∷ []) (opened new ∷ hs)) (sym (premise_parts_goals c ts s.premises))
+            (rewrite_leads ts (premise_goals c (fill ts) s.premises) first
+            (not_true (is_open (length s.sorts) p) b2.0) b2.1 h.0 h.1 (lead b1.0 ts first.is.0)))
 
   -- an equation the other way round
   turned : (q : List ℕ) (t u : Term) (hs : List Goal) → HasSort E (variables (entries c)) t q →
@@ -337,68 +374,38 @@ module _ (E : List Declaration) (l : Lawful E) (c : List Slot) (g : Formula) (f 
         ap (λ z. unnamed (normal E z)) (sym (is u)),
       ) k)
 
-  not_true : (b : Bool) → not b ≡ true → b ≡ false
-  not_true true e = absurd cc
-  not_true false e = refl
+  -- a formula and one of its strips
+  module _ (a : Formula) (s : Strip) (st : Stripped E a s) where
+    -- the equation of a strip at an instance
+    equation_leads : Shown E c a → (q : List ℕ) (t u : Term) → head_form E s.rest ≡ equal q t u → (ts : List Term) →
+        length ts ≡ length s.sorts → Fits E (fill ts) (s.sorts ++ variables (entries c)) (variables (entries c)) →
+        Leads E (seq (entries c) (equal q (replace_term (fill ts) t) (replace_term (fill ts) u)) ∷ [])
+        (premise_goals c (fill ts) s.premises)
+    equation_leads k q t u e ts n fits =
+        strip_leads E l c a k.0 k.1 s st (fill ts) (lowers_filled (length s.sorts) ts n) fits (equal q (replace_term (fill ts) t)
+        (replace_term (fill ts) u))
+        (sym (same_replace E (fill ts) (head_form E s.rest) s.rest (l.head_same s.rest)) ∙
+        ap (λ z. unnamed (normal E (replace (fill ts) z))) e)
 
-  -- the equation of a strip at an instance
-  equation_leads : (a : Formula) → Shown E c a → (s : Strip) → Stripped E a s → (q : List ℕ) (t u : Term) → head_form E s.rest
-      ≡ equal q t u → (ts : List Term) → length ts ≡ length s.sorts → Fits E (fill ts) (s.sorts ++ variables (entries c))
-      (variables (entries c)) → Leads E (seq (entries c) (equal q (replace_term (fill ts) t) (replace_term (fill ts) u)) ∷ [])
-      (premise_goals c (fill ts) s.premises)
-  equation_leads a k s st q t u e ts n fits =
-      strip_leads E l c a k.0 k.1 s st (fill ts) (lowers_filled (length s.sorts) ts n) fits (equal q (replace_term (fill ts) t)
-      (replace_term (fill ts) u))
-      (sym (same_replace E (fill ts) (head_form E s.rest) s.rest (l.head_same s.rest)) ∙
-      ap (λ z. unnamed (normal E (replace (fill ts) z))) e)
+    equation_formed : Shown E c a → (q : List ℕ) (t u : Term) → head_form E s.rest ≡ equal q t u →
+        HasSort E (s.sorts ++ variables (entries c)) t q × HasSort E (s.sorts ++ variables (entries c)) u q
+    equation_formed k q t u e =
+        let V : List (List ℕ) = variables (entries c) in
+        let v = subst (WellFormed E (s.sorts ++ V)) e (l.head_formed (s.sorts ++ V) s.rest (stripped_formed E l V a s k.0 st)) in
+        (v.1, v.2)
 
-  rewrite_found_to : (met : Bool) (s : Strip) (p o : Term) (q : List ℕ) →
-      (met ≡ true → HasSort E (s.sorts ++ variables (entries c)) p q × HasSort E (s.sorts ++ variables (entries c)) o q)
-      → (met ≡ true → (ts : List Term) → length ts ≡ length s.sorts → Fits E (fill ts) (s.sorts ++ variables (entries c))
-      (variables (entries c)) → Leads E (seq (entries c) (equal q (replace_term (fill ts) p) (replace_term (fill ts) o))
-      ∷ []) (premise_goals c (fill ts) s.premises))
-      → (v : Option (List Term)) → find_instance (length s.sorts) p g ≡ v → (ps : List Part) → rewrite_found c met s p o g v
-      ≡ Ok ps → Reaches ps
-  rewrite_found_to met s p o q x lead None r ps d = absurd cc
-  rewrite_found_to met s p o q x lead (Some ts) r ps d =
-      tests (met && (not (is_open (length s.sorts) p) && all_below (length s.sorts) (λ i. occurs_in_term i p))) refl d
-    where
-      new : Part
-      new = part [] c (instantiate (abstracted 0 (replace_term (fill ts) p) g) (replace_term (fill ts) o))
-
-      tests : (v : Bool) → (met && (not (is_open (length s.sorts) p) && all_below (length s.sorts) (λ i. occurs_in_term i p)))
-          ≡ v → if_met v (new ∷ premise_parts c ts s.premises) ≡ Ok ps → Reaches ps
-      tests false b d = absurd cc
-      tests true b d =
-          let b1 = both_true met (not (is_open (length s.sorts) p) && all_below (length s.sorts) (λ i. occurs_in_term i p)) b in
-          let b2 = both_true (not (is_open (length s.sorts) p)) (all_below (length s.sorts) (λ i. occurs_in_term i p)) b1.1 in
-          let first = first_sound (length s.sorts) p (places 0 g) ts r in
-          let h = x b1.0 in
-          subst Reaches (ok_injective (new ∷ premise_parts c ts s.premises) ps d)
-          (subst (λ hs. Leads E (seq (entries c) g ∷ []) (opened new ∷ hs)) (sym (premise_parts_goals c ts s.premises))
-          (rewrite_leads (length s.sorts) s.sorts p o q ts (premise_goals c (fill ts) s.premises) refl first
-          (not_true (is_open (length s.sorts) p) b2.0) b2.1 h.0 h.1 (lead b1.0 ts first.is.0)))
-
-  rewrite_form_to : (a : Formula) (met : Bool) → (met ≡ true → Shown E c a) → (way : Bool) (s : Strip) → Stripped E a s →
-      (h : Formula) → head_form E s.rest ≡ h → (ps : List Part) → rewrite_form c met way s g h ≡ Ok ps → Reaches ps
-  rewrite_form_to a met k true s st (equal q t u) e ps d = rewrite_found_to met s t u q (λ m. formed m)
-      (λ m ts n fits. equation_leads a (k m) s st q t u e ts n fits) (find_instance (length s.sorts) t g) refl ps d
-    where
-      formed : met ≡ true → HasSort E (s.sorts ++ variables (entries c)) t q × HasSort E (s.sorts ++ variables (entries c)) u q
-      formed m = let v = subst (WellFormed E (s.sorts ++ variables (entries c))) e
-          (l.head_formed (s.sorts ++ variables (entries c)) s.rest (stripped_formed E l (variables (entries c)) a s (k m).0 st))
-          in (v.1, v.2)
-  rewrite_form_to a met k false s st (equal q t u) e ps d = rewrite_found_to met s u t q (λ m. let r = formed m in (r.1, r.0))
-      (λ m ts n fits. turned q (replace_term (fill ts) t) (replace_term (fill ts) u) (premise_goals c (fill ts) s.premises)
-      (replace_sort E (fill ts) (s.sorts ++ variables (entries c)) (variables (entries c)) fits t q (formed m).0)
-      (replace_sort E (fill ts) (s.sorts ++ variables (entries c)) (variables (entries c)) fits u q (formed m).1)
-      (equation_leads a (k m) s st q t u e ts n fits)) (find_instance (length s.sorts) u g) refl ps d
-    where
-      formed : met ≡ true → HasSort E (s.sorts ++ variables (entries c)) t q × HasSort E (s.sorts ++ variables (entries c)) u q
-      formed m = let v = subst (WellFormed E (s.sorts ++ variables (entries c))) e
-          (l.head_formed (s.sorts ++ variables (entries c)) s.rest (stripped_formed E l (variables (entries c)) a s (k m).0 st))
-          in (v.1, v.2)
-  rewrite_form_to a met k way s st h e ps d = absurd cc
+    rewrite_form_to : (met : Bool) → (met ≡ true → Shown E c a) → (way : Bool) (h : Formula) → head_form E s.rest ≡ h →
+        (ps : List Part) → rewrite_form c met way s g h ≡ Ok ps → Reaches ps
+    rewrite_form_to met k true (equal q t u) e ps d = rewrite_found_to s t u q met (λ m. equation_formed (k m) q t u e)
+        (λ m ts n fits. equation_leads (k m) q t u e ts n fits) (find_instance (length s.sorts) t g) refl ps d
+    rewrite_form_to met k false (equal q t u) e ps d =
+        let sorts = λ (m : met ≡ true). equation_formed (k m) q t u e in
+        rewrite_found_to s u t q met (λ m. ((sorts m).1, (sorts m).0))
+        (λ m ts n fits. turned q (replace_term (fill ts) t) (replace_term (fill ts) u) (premise_goals c (fill ts) s.premises)
+        (replace_sort E (fill ts) (s.sorts ++ variables (entries c)) (variables (entries c)) fits t q (sorts m).0)
+        (replace_sort E (fill ts) (s.sorts ++ variables (entries c)) (variables (entries c)) fits u q (sorts m).1)
+        (equation_leads (k m) q t u e ts n fits)) (find_instance (length s.sorts) u g) refl ps d
+    rewrite_form_to met k way h e ps d = absurd cc
 
   pub rewrite_to : (way : Bool) (e : Evidence) → IsTyped E c e → (ps : List Part) →
       and_then (shows E c e) (λ a. rewrite_strip E c (is_met E c e) way g (equation E (all_strips E a))) ≡ Ok ps → Reaches ps
@@ -407,8 +414,9 @@ module _ (E : List Declaration) (l : Lawful E) (c : List Slot) (g : Formula) (f 
       found : (a : Formula) → shows E c e ≡ Ok a → (o : Option Strip) → equation E (all_strips E a) ≡ o →
           rewrite_strip E c (is_met E c e) way g o ≡ Ok ps → Reaches ps
       found a q None r d = absurd cc
-      found a q (Some s) r d = rewrite_form_to a (is_met E c e) (λ m. shown E l c f e y m a q) way s
-          (equation_stripped E a (all_strips E a) (strips_stripped _ E a (strip [] [] a) unstripped) s r) (head_form E s.rest) refl ps d
+      found a q (Some s) r d = rewrite_form_to a s
+          (equation_stripped E a (all_strips E a) (strips_stripped _ E a (strip [] [] a) unstripped) s r)
+          (is_met E c e) (λ m. shown E l c f e y m a q) way (head_form E s.rest) refl ps d
 
       go : (o : Result Formula Fault) → shows E c e ≡ o →
           and_then o (λ a. rewrite_strip E c (is_met E c e) way g (equation E (all_strips E a))) ≡ Ok ps → Reaches ps

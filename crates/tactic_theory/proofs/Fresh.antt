@@ -178,29 +178,30 @@ not_among n m ms e = go (is_name n m) e
 join_not : (n m : List ℕ) (ms : List (List ℕ)) → is_name n m ≡ false → is_among n ms ≡ false → is_among n (m ∷ ms) ≡ false
 join_not n m ms p q = ap (λ r. r || is_among n ms) p ∙ q
 
-unless_among : (n : List ℕ) (i : ℕ) (e : Entry) (x : Slot) (c r : List Slot) → is_name n x.name ≡ false → is_among n (names c)
-    ≡ false → is_among n (names r) ≡ false → is_among n (names (unless i e x c r)) ≡ false
-unless_among n i (variable s) x c r p q k = join_not n x.name (names r) p k
-unless_among n i (hypothesis a) x c r p q k = go (i == count (entries c))
-  where
-    go : (t : Bool) → is_among n (names (if t then c else x ∷ r)) ≡ false
-    go true = q
-    go false = join_not n x.name (names r) p k
+module _ (i : ℕ) (x : Slot) (c r : List Slot) where
+  unless_among : (e : Entry) (n : List ℕ) → is_name n x.name ≡ false → is_among n (names c) ≡ false → is_among n (names r) ≡ false →
+      is_among n (names (unless i e x c r)) ≡ false
+  unless_among (variable s) n p q k = join_not n x.name (names r) p k
+  unless_among (hypothesis a) n p q k = go (i == count (entries c))
+    where
+      go : (t : Bool) → is_among n (names (if t then c else x ∷ r)) ≡ false
+      go true = q
+      go false = join_not n x.name (names r) p k
+
+  unless_apart : (e : Entry) → AreApart (names c) → AreApart (names r) → is_among x.name (names r) ≡ false →
+      AreApart (names (unless i e x c r))
+  unless_apart (variable s) p q k = (k, q)
+  unless_apart (hypothesis a) p q k = go (i == count (entries c))
+    where
+      go : (t : Bool) → AreApart (names (if t then c else x ∷ r))
+      go true = p
+      go false = (k, q)
 
 pub without_among : (n : List ℕ) (c : List Slot) (i : ℕ) → is_among n (names c) ≡ false → is_among n (names (slots_without c i)) ≡ false
 without_among n [] i e = e
-without_among n (x ∷ c) i e = let h = not_among n x.name (names c) e in unless_among n i x.entry x c (slots_without c i) h.0 h.1
+without_among n (x ∷ c) i e = let h = not_among n x.name (names c) e in unless_among i x c (slots_without c i) x.entry n h.0 h.1
     (without_among n c i h.1)
-
-unless_apart : (i : ℕ) (e : Entry) (x : Slot) (c r : List Slot) → AreApart (names c) → AreApart (names r) →
-    is_among x.name (names r) ≡ false → AreApart (names (unless i e x c r))
-unless_apart i (variable s) x c r p q k = (k, q)
-unless_apart i (hypothesis a) x c r p q k = go (i == count (entries c))
-  where
-    go : (t : Bool) → AreApart (names (if t then c else x ∷ r))
-    go true = p
-    go false = (k, q)
 
 pub without_apart : (c : List Slot) (i : ℕ) → AreApart (names c) → AreApart (names (slots_without c i))
 without_apart [] i h = h
-without_apart (x ∷ c) i h = unless_apart i x.entry x c (slots_without c i) h.1 (without_apart c i h.1) (without_among x.name c i h.0)
+without_apart (x ∷ c) i h = unless_apart i x c (slots_without c i) x.entry h.1 (without_apart c i h.1) (without_among x.name c i h.0)

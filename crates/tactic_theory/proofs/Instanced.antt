@@ -68,38 +68,42 @@ not_shifted E U V t s p = unchanged_sort E V (U ++ V) (raise 0 (length U))
 
 -- ---- the terms that are put in have the sorts of their variables, where these occur
 
-mutual
-  pub put_in_sort : (E : List Declaration) → Lawful E → (σ : ℕ → Term) (V W : List (List ℕ)) (i : ℕ) (r : List ℕ) → At W i r →
-      (t : Term) (s : List ℕ) → HasSort E W t s → HasSort E V (replace_term σ t) s → OccursInTerm i t → HasSort E V (σ i) r
-  put_in_sort E l σ V W i r a (var j) s p q o =
-      subst (HasSort E V (σ i)) (sym (at_once W i r s a (subst (λ k. At W k s) (sym o) p))) (subst (λ k. HasSort E V (σ k) s) (sym o) q)
-  put_in_sort E l σ V W i r a (app f ts) s p q o = put_in_sorts E l σ V W i r a ts (takes (find E f)) p.1 q.1 o
+module _ (E : List Declaration) (σ : ℕ → Term) (V W : List (List ℕ)) (i : ℕ) (r : List ℕ) (a : At W i r) where
+  mutual
+    pub put_in_sort : (t : Term) (s : List ℕ) → HasSort E W t s → HasSort E V (replace_term σ t) s → OccursInTerm i t → HasSort E V (σ i) r
+    put_in_sort (var j) s p q o =
+        subst (HasSort E V (σ i)) (sym (at_once W i r s a (subst (λ k. At W k s) (sym o) p))) (subst (λ k. HasSort E V (σ k) s) (sym o) q)
+    put_in_sort (app f ts) s p q o = put_in_sorts ts (takes (find E f)) p.1 q.1 o
 
-  pub put_in_sorts : (E : List Declaration) → Lawful E → (σ : ℕ → Term) (V W : List (List ℕ)) (i : ℕ) (r : List ℕ) → At W i r →
-      (ts : Terms) (ss : List (List ℕ)) → HaveSorts E W ts ss → HaveSorts E V (replace_terms σ ts) ss → OccursInTerms i ts →
+    pub put_in_sorts : (ts : Terms) (ss : List (List ℕ)) → HaveSorts E W ts ss → HaveSorts E V (replace_terms σ ts) ss →
+        OccursInTerms i ts → HasSort E V (σ i) r
+    put_in_sorts nil ss p q o = absurd o
+    put_in_sorts (cons t ts) [] p q o = absurd p
+    put_in_sorts (cons t ts) (s ∷ ss) p q (inl o) = put_in_sort t s p.0 q.0 o
+    put_in_sorts (cons t ts) (s ∷ ss) p q (inr o) = put_in_sorts ts ss p.1 q.1 o
+
+-- a formula over W, and over V with the terms put in
+abbrev pub FormedBoth : List Declaration → (ℕ → Term) → List (List ℕ) → List (List ℕ) → Formula → Type 0
+FormedBoth E σ V W a = WellFormed E W a × WellFormed E V (replace σ a)
+
+module _ (E : List Declaration) (r : List ℕ) where
+  pub put_in_formula : (σ : ℕ → Term) (V W : List (List ℕ)) (i : ℕ) → At W i r → (a : Formula) → FormedBoth E σ V W a → Occurs i a →
       HasSort E V (σ i) r
-  put_in_sorts E l σ V W i r a nil ss p q o = absurd o
-  put_in_sorts E l σ V W i r a (cons t ts) [] p q o = absurd p
-  put_in_sorts E l σ V W i r a (cons t ts) (s ∷ ss) p q (inl o) = put_in_sort E l σ V W i r a t s p.0 q.0 o
-  put_in_sorts E l σ V W i r a (cons t ts) (s ∷ ss) p q (inr o) = put_in_sorts E l σ V W i r a ts ss p.1 q.1 o
-
-pub put_in_formula : (E : List Declaration) → Lawful E → (σ : ℕ → Term) (V W : List (List ℕ)) (i : ℕ) (r : List ℕ) → At W i r →
-    (a : Formula) → WellFormed E W a → WellFormed E V (replace σ a) → Occurs i a → HasSort E V (σ i) r
-put_in_formula E l σ V W i r h truth p q o = absurd o
-put_in_formula E l σ V W i r h falsity p q o = absurd o
-put_in_formula E l σ V W i r h (pred n ts) p q o = put_in_sorts E l σ V W i r h ts (takes (find E n)) p.1 q.1 o
-put_in_formula E l σ V W i r h (equal s t u) p q (inl o) = put_in_sort E l σ V W i r h t s p.1 q.1 o
-put_in_formula E l σ V W i r h (equal s t u) p q (inr o) = put_in_sort E l σ V W i r h u s p.2 q.2 o
-put_in_formula E l σ V W i r h (both a b) p q (inl o) = put_in_formula E l σ V W i r h a p.0 q.0 o
-put_in_formula E l σ V W i r h (both a b) p q (inr o) = put_in_formula E l σ V W i r h b p.1 q.1 o
-put_in_formula E l σ V W i r h (either a b) p q (inl o) = put_in_formula E l σ V W i r h a p.0 q.0 o
-put_in_formula E l σ V W i r h (either a b) p q (inr o) = put_in_formula E l σ V W i r h b p.1 q.1 o
-put_in_formula E l σ V W i r h (implies a b) p q (inl o) = put_in_formula E l σ V W i r h a p.0 q.0 o
-put_in_formula E l σ V W i r h (implies a b) p q (inr o) = put_in_formula E l σ V W i r h b p.1 q.1 o
-put_in_formula E l σ V W i r h (all s x a) p q o = not_next E V s (σ i) r (put_in_formula E l (lift σ) (s ∷ V) (s ∷ W) (suc i) r
-    h a p.1 q.1 o)
-put_in_formula E l σ V W i r h (ex s x a) p q o = not_next E V s (σ i) r (put_in_formula E l (lift σ) (s ∷ V) (s ∷ W) (suc i) r
-    h a p.1 q.1 o)
+  put_in_formula σ V W i h truth p o = absurd o
+  put_in_formula σ V W i h falsity p o = absurd o
+  put_in_formula σ V W i h (pred n ts) (p, q) o = put_in_sorts E σ V W i r h ts (takes (find E n)) p.1 q.1 o
+  put_in_formula σ V W i h (equal s t u) (p, q) (inl o) = put_in_sort E σ V W i r h t s p.1 q.1 o
+  put_in_formula σ V W i h (equal s t u) (p, q) (inr o) = put_in_sort E σ V W i r h u s p.2 q.2 o
+  put_in_formula σ V W i h (both a b) (p, q) (inl o) = put_in_formula σ V W i h a (p.0, q.0) o
+  put_in_formula σ V W i h (both a b) (p, q) (inr o) = put_in_formula σ V W i h b (p.1, q.1) o
+  put_in_formula σ V W i h (either a b) (p, q) (inl o) = put_in_formula σ V W i h a (p.0, q.0) o
+  put_in_formula σ V W i h (either a b) (p, q) (inr o) = put_in_formula σ V W i h b (p.1, q.1) o
+  put_in_formula σ V W i h (implies a b) (p, q) (inl o) = put_in_formula σ V W i h a (p.0, q.0) o
+  put_in_formula σ V W i h (implies a b) (p, q) (inr o) = put_in_formula σ V W i h b (p.1, q.1) o
+  put_in_formula σ V W i h (all s x a) (p, q) o =
+      not_next E V s (σ i) r (put_in_formula (lift σ) (s ∷ V) (s ∷ W) (suc i) h a (p.1, q.1) o)
+  put_in_formula σ V W i h (ex s x a) (p, q) o =
+      not_next E V s (σ i) r (put_in_formula (lift σ) (s ∷ V) (s ∷ W) (suc i) h a (p.1, q.1) o)
 
 -- ---- printing names
 
@@ -130,16 +134,16 @@ alike_formed E V a b e p = formed_unnamed E V a (subst (WellFormed E V) (sym e) 
 
 -- ---- a filled pattern: the open variables have their sorts, the others are lowered
 
-pub fits_filled : (E : List Declaration) (U V : List (List ℕ)) (ts : List Term) → length ts ≡ length U →
-    ((i : ℕ) (s : List ℕ) → i < length U → At (U ++ V) i s → HasSort E V (fill ts i) s) → Fits E (fill ts) (U ++ V) V
-fits_filled E U V ts e h i s p = go (side i (length U))
-  where
-    go : (i < length U) ⊎ (length U ≤ i) → HasSort E V (fill ts i) s
-    go (inl k) = h i s k p
-    go (inr k) = subst (λ z. HasSort E V z s) (sym (lowers_filled (length U) ts e i k)) (at_behind U V i s k p)
+module _ (E : List Declaration) (U V : List (List ℕ)) (ts : List Term) where
+  pub fits_filled : length ts ≡ length U →
+      ((i : ℕ) (s : List ℕ) → i < length U → At (U ++ V) i s → HasSort E V (fill ts i) s) → Fits E (fill ts) (U ++ V) V
+  fits_filled e h i s p = go (side i (length U))
+    where
+      go : (i < length U) ⊎ (length U ≤ i) → HasSort E V (fill ts i) s
+      go (inl k) = h i s k p
+      go (inr k) = subst (λ z. HasSort E V z s) (sym (lowers_filled (length U) ts e i k)) (at_behind U V i s k p)
 
-pub fits_instance : (E : List Declaration) → Lawful E → (U V : List (List ℕ)) (a b : Formula) (ts : List Term) →
-    IsInstance (length U) a b ts → WellFormed E (U ++ V) a → WellFormed E V b → ((i : ℕ) → i < length U → Occurs i a) →
-    Fits E (fill ts) (U ++ V) V
-fits_instance E l U V a b ts m p q o = fits_filled E U V ts m.0 (λ i s k r. put_in_formula E l (fill ts) V (U ++ V) i s r a p
-    (alike_formed E V (replace (fill ts) a) b m.1 q) (o i k))
+  pub fits_instance : (a b : Formula) → IsInstance (length U) a b ts → WellFormed E (U ++ V) a → WellFormed E V b →
+      ((i : ℕ) → i < length U → Occurs i a) → Fits E (fill ts) (U ++ V) V
+  fits_instance a b m p q o = fits_filled m.0 (λ i s k r. put_in_formula E s (fill ts) V (U ++ V) i r a
+      (p, alike_formed E V (replace (fill ts) a) b m.1 q) (o i k))

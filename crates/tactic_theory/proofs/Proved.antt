@@ -114,29 +114,31 @@ limited_opened : (o : Option (ℕ × ℕ)) (ps : List Part) (hs : List Goal) →
 limited_opened (Some w) ps hs e = absurd cc
 limited_opened None ps hs e = ok_injective (map opened ps) hs e
 
--- a refinement that goes well leads to its new goals
-pub refine_opens : (large : Formula → Option (ℕ × ℕ)) (E : List Declaration) → Lawful E → (g : Goal) → Formed E (sequent g) →
-    (r : Refinement) → IsTypedRow E g.slots r → (hs : List Goal) → refine large E g r ≡ Ok hs → Opens E g hs
-refine_opens large E l g f r y hs e = go (row E g.slots g.shown r) refl e
-  where
-    go : (o : Result (List Part) Fault) → row E g.slots g.shown r ≡ o →
-        and_then o (λ ps. limited (first_large large (flat_map put_in ps)) ps) ≡ Ok hs → Opens E g hs
-    go (Err z) q d = absurd cc
-    go (Ok ps) q d = subst (Leads E (sequent g ∷ [])) (limited_opened (first_large large (flat_map put_in ps)) ps hs d)
-        (row_to E l g.slots g.shown f.0 f.1 r y ps q)
+module _ (large : Formula → Option (ℕ × ℕ)) (E : List Declaration) (l : Lawful E) where
+  -- a refinement that goes well leads to its new goals
+  pub refine_opens : (g : Goal) → Formed E (sequent g) → (r : Refinement) → IsTypedRow E g.slots r → (hs : List Goal) →
+      refine large E g r ≡ Ok hs → Opens E g hs
+  refine_opens g f r y hs e = go (row E g.slots g.shown r) refl e
+    where
+      go : (o : Result (List Part) Fault) → row E g.slots g.shown r ≡ o →
+          and_then o (λ ps. limited (first_large large (flat_map put_in ps)) ps) ≡ Ok hs → Opens E g hs
+      go (Err z) q d = absurd cc
+      go (Ok ps) q d = subst (Leads E (sequent g ∷ [])) (limited_opened (first_large large (flat_map put_in ps)) ps hs d)
+          (row_to E l g.slots g.shown f.0 f.1 r y ps q)
 
-pub intros_opens : (large : Formula → Option (ℕ × ℕ)) (E : List Declaration) → Lawful E → (g : Goal) → Formed E (sequent g) →
-    (ns : List (List ℕ)) (gs hs : List Goal) → Opens E g gs → intros_as large E ns gs ≡ Ok hs → Opens E g hs
-intros_opens large E l g f [] gs hs k e = subst (Opens E g) (ok_injective gs hs e) k
-intros_opens large E l g f (n ∷ ns) [] hs k e = absurd cc
-intros_opens large E l g f (n ∷ ns) (h ∷ gs) hs k e = go (refine large E h (intro (Some n))) refl
-    (λ is. intros_opens large E l g f ns (is ++ gs) hs) e
-  where
-    go : (o : Result (List Goal) Fault) → refine large E h (intro (Some n)) ≡ o → ((is : List Goal) → Opens E g (is ++ gs) →
-        intros_as large E ns (is ++ gs) ≡ Ok hs → Opens E g hs) → and_then o (λ is. intros_as large E ns (is ++ gs)) ≡ Ok hs → Opens E g hs
-    go (Err z) q r d = absurd cc
-    go (Ok is) q r d = r is (opens_first E g h gs is k (refine_opens large E l h (opens_formed E g (h ∷ gs) k f).0
-        (intro (Some n)) tt is q)) d
+  pub intros_opens : (g : Goal) → Formed E (sequent g) → (ns : List (List ℕ)) (gs hs : List Goal) → Opens E g gs →
+      intros_as large E ns gs ≡ Ok hs → Opens E g hs
+  intros_opens g f [] gs hs k e = subst (Opens E g) (ok_injective gs hs e) k
+  intros_opens g f (n ∷ ns) [] hs k e = absurd cc
+  intros_opens g f (n ∷ ns) (h ∷ gs) hs k e = go (refine large E h (intro (Some n))) refl
+      (λ is. intros_opens g f ns (is ++ gs) hs) e
+    where
+      go : (o : Result (List Goal) Fault) → refine large E h (intro (Some n)) ≡ o → ((is : List Goal) → Opens E g (is ++ gs) →
+          intros_as large E ns (is ++ gs) ≡ Ok hs → Opens E g hs) → and_then o (λ is. intros_as large E ns (is ++ gs)) ≡ Ok hs →
+          Opens E g hs
+      go (Err z) q r d = absurd cc
+      go (Ok is) q r d = r is (opens_first E g h gs is k
+          (refine_opens h (opens_formed E g (h ∷ gs) k f).0 (intro (Some n)) tt is q)) d
 
 -- ---- bullets and braces keep the goals
 
@@ -242,20 +244,20 @@ brace_out_keeps s t e = go s.focused (find_brace s.frames) refl e
 
 -- ---- a state fits
 
-refined_fits : (E : List Declaration) (root g : Goal) (gs : List Goal) (fs : List Frame) (o : Result (List Goal) Fault)
-    (t : State) → Leads E (sequent root ∷ []) (g ∷ gs ++ goals_behind fs) → ((hs : List Goal) → o ≡ Ok hs → Opens E g hs) →
-    refined gs fs o ≡ Ok t → FitsState E root t
-refined_fits E root g gs fs (Err z) t k h e = absurd cc
-refined_fits E root g gs fs (Ok hs) t k h e = subst (FitsState E root) (step_injective (state (hs ++ gs) fs) t e)
-    (subst (Leads E (sequent root ∷ [])) (sym (append_assoc hs gs (goals_behind fs)))
-    (opens_first E root g (gs ++ goals_behind fs) hs k (h hs refl)))
-
 module _ {R : Type 0} (large : Formula → Option (ℕ × ℕ)) (typed : Goal → R → Result Refinement Fault) (E : List Declaration)
     (l : Lawful E) (y : IsTyping E typed) (root : Goal) (f : Formed E (sequent root)) where
+  refined_fits : (g : Goal) (gs : List Goal) (fs : List Frame) (o : Result (List Goal) Fault) (t : State) →
+      Leads E (sequent root ∷ []) (g ∷ gs ++ goals_behind fs) → ((hs : List Goal) → o ≡ Ok hs → Opens E g hs) →
+      refined gs fs o ≡ Ok t → FitsState E root t
+  refined_fits g gs fs (Err z) t k h e = absurd cc
+  refined_fits g gs fs (Ok hs) t k h e = subst (FitsState E root) (step_injective (state (hs ++ gs) fs) t e)
+      (subst (Leads E (sequent root ∷ [])) (sym (append_assoc hs gs (goals_behind fs)))
+      (opens_first E root g (gs ++ goals_behind fs) hs k (h hs refl)))
+
   refine_fits : (gs : List Goal) (fs : List Frame) (x : R) (t : State) → Leads E (sequent root ∷ []) (gs ++ goals_behind fs) →
       refine_first large typed E gs fs x ≡ Ok t → FitsState E root t
   refine_fits [] fs x t k e = absurd cc
-  refine_fits (g ∷ gs) fs x t k e = refined_fits E root g gs fs (typed_then large E g (typed g x)) t k (λ hs q. go hs (typed g x) refl q) e
+  refine_fits (g ∷ gs) fs x t k e = refined_fits g gs fs (typed_then large E g (typed g x)) t k (λ hs q. go hs (typed g x) refl q) e
     where
       formed : Formed E (sequent g)
       formed = (opens_formed E root (g ∷ gs ++ goals_behind fs) k f).0
@@ -267,7 +269,7 @@ module _ {R : Type 0} (large : Formula → Option (ℕ × ℕ)) (typed : Goal �
   names_fit : (gs : List Goal) (fs : List Frame) (ns : List (List ℕ)) (t : State) →
       Leads E (sequent root ∷ []) (gs ++ goals_behind fs) → name_first large E gs fs ns ≡ Ok t → FitsState E root t
   names_fit [] fs ns t k e = absurd cc
-  names_fit (g ∷ gs) fs ns t k e = refined_fits E root g gs fs (intros_as large E ns (g ∷ [])) t k
+  names_fit (g ∷ gs) fs ns t k e = refined_fits g gs fs (intros_as large E ns (g ∷ [])) t k
       (λ hs q. intros_opens large E l g (opens_formed E root (g ∷ gs ++ goals_behind fs) k f).0 ns (g ∷ []) hs (opens_itself E g) q) e
 
   kept : (s t : State) → FitsState E root s → goals_of t ≡ goals_of s → FitsState E root t
@@ -294,26 +296,25 @@ pub qed_done : (gs : List Goal) (o : Option Found) (t : State) → qed_at gs o �
 qed_done (g ∷ gs) o t e = absurd cc
 qed_done [] o t e = refl
 
--- a block that goes well has a derivation of its statement
-pub block_derives : {R : Type 0} (large : Formula → Option (ℕ × ℕ)) (typed : Goal → R → Result Refinement Fault)
-    (E : List Declaration) → Lawful E → IsTyping E typed → (a : Formula) → WellFormed E [] a → (xs : List (Inner R)) (t : State)
-    → block large typed E a xs ≡ Ok t → Derives E [] [] a
-block_derives {R} large typed E l y a w xs t e = go (run_all large typed E xs (begin a)) refl e
-  where
-    root : Goal
-    root = goal [] a
+module _ {R : Type 0} (large : Formula → Option (ℕ × ℕ)) (typed : Goal → R → Result Refinement Fault) (E : List Declaration) where
+  -- a block that goes well has a derivation of its statement
+  pub block_derives : Lawful E → IsTyping E typed → (a : Formula) → WellFormed E [] a → (xs : List (Inner R)) (t : State) →
+      block large typed E a xs ≡ Ok t → Derives E [] [] a
+  block_derives l y a w xs t e = go (run_all large typed E xs (begin a)) refl e
+    where
+      root : Goal
+      root = goal [] a
 
-    go : (o : Result State StepFault) → run_all large typed E xs (begin a) ≡ o → and_then o qed ≡ Ok t → Derives E [] [] a
-    go (Err z) q d = absurd cc
-    go (Ok u) q d =
-        let k = all_fit large typed E l y root (tt, w) xs (begin a) u (opens_itself E root) q in
-        opens_sound E root [] (subst (Leads E (sequent root ∷ [])) (qed_done (goals_of u) (find_brace u.frames) t d) k) (tt, w) tt
+      go : (o : Result State StepFault) → run_all large typed E xs (begin a) ≡ o → and_then o qed ≡ Ok t → Derives E [] [] a
+      go (Err z) q d = absurd cc
+      go (Ok u) q d =
+          let k = all_fit large typed E l y root (tt, w) xs (begin a) u (opens_itself E root) q in
+          opens_sound E root [] (subst (Leads E (sequent root ∷ [])) (qed_done (goals_of u) (find_brace u.frames) t d) k) (tt, w) tt
 
--- and in an environment in order
-pub block_proved : {R : Type 0} (large : Formula → Option (ℕ × ℕ)) (typed : Goal → R → Result Refinement Fault)
-    (E : List Declaration) → InOrder E → IsTyping E typed → (a : Formula) → WellFormed E [] a →
-    (xs : List (Inner R)) (t : State) → block large typed E a xs ≡ Ok t → Derives E [] [] a
-block_proved large typed E o y a w xs t e = block_derives large typed E (lawful E o) y a w xs t e
+  -- and in an environment in order
+  pub block_proved : InOrder E → IsTyping E typed → (a : Formula) → WellFormed E [] a → (xs : List (Inner R)) (t : State) →
+      block large typed E a xs ≡ Ok t → Derives E [] [] a
+  block_proved o y a w xs t e = block_derives (lawful E o) y a w xs t e
 
 -- ---- intros is intro as long as the goal as written goes on
 

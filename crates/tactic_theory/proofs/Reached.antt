@@ -49,18 +49,18 @@ first_at : (k : ℕ) (E : List Declaration) (s : Strip) → StripAt (strips k E 
 first_at zero E s = refl
 first_at (suc k) E s = refl
 
--- behind a strip of the list stands the next one
-further : (k j : ℕ) (E : List Declaration) (a s t : Strip) → j < k → StripAt (strips k E a) j s →
-    strip_form s (head_form E s.rest) ≡ Some t → StripAt (strips k E a) (suc j) t
-further zero j E a s t h p e = absurd (omega (arith, h))
-further (suc k) zero E a s t h p e = subst (λ o. StripAt (each_from o (λ u. strips k E u)) zero t)
-    (sym (ap (λ z. strip_form z (head_form E z.rest)) p ∙ e)) (first_at k E t)
-further (suc k) (suc j) E a s t h p e = go (strip_form a (head_form E a.rest)) (λ u q. further k j E u s t (omega (arith, h)) q e) p
-  where
-    go : (o : Option Strip) → ((u : Strip) → StripAt (strips k E u) j s → StripAt (strips k E u) (suc j) t) →
-        StripAt (each_from o (λ u. strips k E u)) j s → StripAt (each_from o (λ u. strips k E u)) (suc j) t
-    go None f q = q
-    go (Some u) f q = f u q
+module _ (E : List Declaration) (s t : Strip) (e : strip_form s (head_form E s.rest) ≡ Some t) where
+  -- behind a strip of the list stands the next one
+  further : (k j : ℕ) (a : Strip) → j < k → StripAt (strips k E a) j s → StripAt (strips k E a) (suc j) t
+  further zero j a h p = absurd (omega (arith, h))
+  further (suc k) zero a h p = subst (λ o. StripAt (each_from o (λ u. strips k E u)) zero t)
+      (sym (ap (λ z. strip_form z (head_form E z.rest)) p ∙ e)) (first_at k E t)
+  further (suc k) (suc j) a h p = go (strip_form a (head_form E a.rest)) (λ u q. further k j u (omega (arith, h)) q) p
+    where
+      go : (o : Option Strip) → ((u : Strip) → StripAt (strips k E u) j s → StripAt (strips k E u) (suc j) t) →
+          StripAt (each_from o (λ u. strips k E u)) j s → StripAt (each_from o (λ u. strips k E u)) (suc j) t
+      go None f q = q
+      go (Some u) f q = f u q
 
 -- where each strip stands: it takes a node off the normal form
 reached : (E : List Declaration) → InOrder E → (a : Formula) (s : Strip) → Stripped E a s → (j : ℕ) ×
@@ -71,8 +71,8 @@ reached E o a t (quantifier s r x b k q) =
     let n : nodes (normal E s.rest) ≡ nodes (normal E b) + 1 = ap nodes (sym (within_head E o E (λ d m. m) s.rest) ∙
     ap (normal E) q ∙ normal_all E r x b) in (
       suc h.0,
-      further (nodes (normal E a)) h.0 E (strip [] [] a) s (strip (r ∷ s.sorts) (map under s.premises) b)
-          (omega (arith, n, h.2)) h.1 (ap (strip_form s) q),
+      further E s (strip (r ∷ s.sorts) (map under s.premises) b) (ap (strip_form s) q) (nodes (normal E a)) h.0 (strip [] [] a)
+          (omega (arith, n, h.2)) h.1,
       omega (arith, n, h.2),
     )
 reached E o a t (premise s p b k q) =
@@ -80,8 +80,8 @@ reached E o a t (premise s p b k q) =
     let n : nodes (normal E s.rest) ≡ nodes (normal E p) + nodes (normal E b) + 1 =
     ap nodes (sym (within_head E o E (λ d m. m) s.rest) ∙ ap (normal E) q ∙ normal_implies E p b) in (
       suc h.0,
-      further (nodes (normal E a)) h.0 E (strip [] [] a) s (strip s.sorts (s.premises ++ p ∷ []) b)
-          (omega (arith, n, h.2)) h.1 (ap (strip_form s) q),
+      further E s (strip s.sorts (s.premises ++ p ∷ []) b) (ap (strip_form s) q) (nodes (normal E a)) h.0 (strip [] [] a)
+          (omega (arith, n, h.2)) h.1,
       omega (arith, n, h.2),
     )
 

@@ -132,50 +132,63 @@ use Rattle.tactic_theory.proofs.Shown.{ok_injective, both_true, shown}
 abbrev pub To : List Declaration → List Slot → Formula → List Part → Type 0
 To E c g ps = Leads E (seq (entries c) g ∷ []) (map opened ps)
 
+-- intros, as long as the goal as written goes on
+intro_all_to : (E : List Declaration) (more kept : List Slot) (a : Formula) → WellFormed E (variables (entries (more ++ kept)))
+    a → Leads E (seq (entries (more ++ kept)) a ∷ []) (opened (intro_all E more kept a) ∷ [])
+intro_all_to E more kept (all s x b) w = let n = fresh E (more ++ kept) x in by_rule (all_i s b) (entries (more ++ kept))
+    (all s x b) (w, same_all_named E s plain x b) (intro_all_to E (slot n (variable s) ∷ more) kept b w.1)
+intro_all_to E more kept (implies a b) w = let n = fresh E (more ++ kept) (codes "H") in
+    by_rule (imp_i a b) (entries (more ++ kept)) (implies a b) (w, refl) (intro_all_to E (slot n (hypothesis a) ∷ more) kept b w.1)
+intro_all_to E more kept a w = left_open (more ++ kept) a nothing
+
 module _ (E : List Declaration) (l : Lawful E) (c : List Slot) (g : Formula) (f : FormedContext E (entries c)) where
+  -- a well formed form of the goal
+  abbrev IsForm : Formula → Type 0
+  IsForm h = Same E h g × WellFormed E (variables (entries c)) h
+
   -- ---- introductions
 
-  intro_to : (n : Option (List ℕ)) (h : Formula) → Same E h g → WellFormed E (variables (entries c)) h → (ps : List Part) →
+  intro_to : (n : Option (List ℕ)) (h : Formula) → IsForm h → (ps : List Part) →
       and_then (intro_one E c n h) (λ p. Ok (p ∷ [])) ≡ Ok ps → To E c g ps
-  intro_to n (all s x b) q w ps e = go (named E c n x) e
+  intro_to n (all s x b) (q, w) ps e = go (named E c n x) e
     where
       go : (r : Result (List ℕ) Fault) → and_then (and_then r (λ m. Ok (part (slot m (variable s) ∷ []) c b)))
           (λ p. Ok (p ∷ [])) ≡ Ok ps → To E c g ps
       go (Ok m) d = subst (To E c g) (ok_injective (part (slot m (variable s) ∷ []) c b ∷ []) ps d)
           (by_rule (all_i s b) (entries c) g (w, same_all_named E s plain x b ∙ q) (left_open (slot m (variable s) ∷ c) b nothing))
       go (Err z) d = absurd cc
-  intro_to n (implies a b) q w ps e = go (named E c n (codes "H")) e
+  intro_to n (implies a b) (q, w) ps e = go (named E c n (codes "H")) e
     where
       go : (r : Result (List ℕ) Fault) → and_then (and_then r (λ m. Ok (part (slot m (hypothesis a) ∷ []) c b)))
           (λ p. Ok (p ∷ [])) ≡ Ok ps → To E c g ps
       go (Ok m) d = subst (To E c g) (ok_injective (part (slot m (hypothesis a) ∷ []) c b ∷ []) ps d)
           (by_rule (imp_i a b) (entries c) g (w, q) (left_open (slot m (hypothesis a) ∷ c) b nothing))
       go (Err z) d = absurd cc
-  intro_to n h q w ps e = absurd cc
+  intro_to n h is ps e = absurd cc
 
   -- ---- the goal's form
 
-  split_to : (h : Formula) → Same E h g → WellFormed E (variables (entries c)) h → (ps : List Part) → split_form c h ≡ Ok ps → To E c g ps
-  split_to (both a b) q w ps e = subst (To E c g) (ok_injective (part [] c a ∷ part [] c b ∷ []) ps e)
+  split_to : (h : Formula) → IsForm h → (ps : List Part) → split_form c h ≡ Ok ps → To E c g ps
+  split_to (both a b) (q, w) ps e = subst (To E c g) (ok_injective (part [] c a ∷ part [] c b ∷ []) ps e)
       (by_rule (and_i a b) (entries c) g (w, q) (left_open c a (left_open c b nothing)))
-  split_to truth q w ps e = subst (To E c g) (ok_injective [] ps e) (by_rule true_i (entries c) g q nothing)
-  split_to h q w ps e = absurd cc
+  split_to truth (q, w) ps e = subst (To E c g) (ok_injective [] ps e) (by_rule true_i (entries c) g q nothing)
+  split_to h is ps e = absurd cc
 
-  left_to : (h : Formula) → Same E h g → WellFormed E (variables (entries c)) h → (ps : List Part) → left_form c h ≡ Ok ps → To E c g ps
-  left_to (either a b) q w ps e = subst (To E c g) (ok_injective (part [] c a ∷ []) ps e) (by_rule (or_i1 a b) (entries c) g (
+  left_to : (h : Formula) → IsForm h → (ps : List Part) → left_form c h ≡ Ok ps → To E c g ps
+  left_to (either a b) (q, w) ps e = subst (To E c g) (ok_injective (part [] c a ∷ []) ps e) (by_rule (or_i1 a b) (entries c) g (
     w,
     q,
   ) (left_open c a nothing))
-  left_to h q w ps e = absurd cc
+  left_to h is ps e = absurd cc
 
-  right_to : (h : Formula) → Same E h g → WellFormed E (variables (entries c)) h → (ps : List Part) → right_form c h ≡ Ok ps → To E c g ps
-  right_to (either a b) q w ps e = subst (To E c g) (ok_injective (part [] c b ∷ []) ps e) (by_rule (or_i2 a b) (entries c) g
+  right_to : (h : Formula) → IsForm h → (ps : List Part) → right_form c h ≡ Ok ps → To E c g ps
+  right_to (either a b) (q, w) ps e = subst (To E c g) (ok_injective (part [] c b ∷ []) ps e) (by_rule (or_i2 a b) (entries c) g
       (w, q) (left_open c b nothing))
-  right_to h q w ps e = absurd cc
+  right_to h is ps e = absurd cc
 
-  witness_to : (s : List ℕ) (t : Term) (p : Span) (h : Formula) → Same E h g → WellFormed E (variables (entries c)) h →
-      HasSort E (variables (entries c)) t s → (ps : List Part) → witness_form c s t p h ≡ Ok ps → To E c g ps
-  witness_to s t p (ex r x b) q w k ps e = go (is_name r s) (bytes_decides r s) e
+  witness_to : (s : List ℕ) (t : Term) (p : Span) (h : Formula) → IsForm h → HasSort E (variables (entries c)) t s →
+      (ps : List Part) → witness_form c s t p h ≡ Ok ps → To E c g ps
+  witness_to s t p (ex r x b) (q, w) k ps e = go (is_name r s) (bytes_decides r s) e
     where
       go : (v : Bool) → Decides v (r ≡ s) → (if v then Ok (part [] c (instantiate b t) ∷ [])
           else Err (of_typing (wrong_sort p))) ≡ Ok ps → To E c g ps
@@ -183,11 +196,10 @@ module _ (E : List Declaration) (l : Lawful E) (c : List Slot) (g : Formula) (f 
           (w, subst (HasSort E (variables (entries c)) t) (sym (d.0 refl)) k, same_ex_named E r plain x b ∙ q)
           (left_open c (instantiate b t) nothing))
       go false d p = absurd cc
-  witness_to s t p h q w k ps e = absurd cc
+  witness_to s t p h is k ps e = absurd cc
 
-  reflexivity_to : (h : Formula) → Same E h g → WellFormed E (variables (entries c)) h → (ps : List Part) → reflexivity_form E h
-      ≡ Ok ps → To E c g ps
-  reflexivity_to (equal s t u) q w ps e = go (same_term (normal_term E t) (normal_term E u))
+  reflexivity_to : (h : Formula) → IsForm h → (ps : List Part) → reflexivity_form E h ≡ Ok ps → To E c g ps
+  reflexivity_to (equal s t u) (q, w) ps e = go (same_term (normal_term E t) (normal_term E u))
       (term_decides (normal_term E t) (normal_term E u)) e
     where
       go : (v : Bool) → Decides v (normal_term E t ≡ normal_term E u) → (if v then Ok [] else Err cannot_match) ≡ Ok ps → To E c g ps
@@ -197,11 +209,10 @@ module _ (E : List Declaration) (l : Lawful E) (c : List Slot) (g : Formula) (f 
         same_equal E s t t t u refl (d.0 refl) ∙ q,
       ) nothing)
       go false d p = absurd cc
-  reflexivity_to h q w ps e = absurd cc
+  reflexivity_to h is ps e = absurd cc
 
-  symmetry_to : (h : Formula) → Same E h g → WellFormed E (variables (entries c)) h → (ps : List Part) → symmetry_form c h
-      ≡ Ok ps → To E c g ps
-  symmetry_to (equal s t u) q w ps e =
+  symmetry_to : (h : Formula) → IsForm h → (ps : List Part) → symmetry_form c h ≡ Ok ps → To E c g ps
+  symmetry_to (equal s t u) (q, w) ps e =
       let V : List (List ℕ) = variables (entries c) in
       let B : Formula = equal s (replace_term next t) (var 0) in
       let k : (v : Term) → instantiate B v ≡ equal s t v = λ v i. equal s (term_undo (first v) next (λ j. refl) t i) v in
@@ -214,7 +225,7 @@ module _ (E : List Declaration) (l : Lawful E) (c : List Slot) (g : Formula) (f 
       )
       (by_rule (eq_i s t) (entries c) (instantiate B t) (w.0, w.1, subst (Same E (equal s t t)) (sym (k t)) refl)
       (left_open c (equal s u t) nothing)))
-  symmetry_to h q w ps e = absurd cc
+  symmetry_to h is ps e = absurd cc
 
   -- ---- evidence taken apart
 
@@ -248,60 +259,60 @@ module _ (E : List Declaration) (l : Lawful E) (c : List Slot) (g : Formula) (f 
   abbrev Headed : Formula → Formula → Type 0
   Headed h a = Same E h a × WellFormed E (variables (entries c)) h × ((z : Formula) → Same E a z → Leads E (seq (entries c) z ∷ []) [])
 
-  pair_to : (e : Evidence) (a h : Formula) (m n : List ℕ) (met : Bool) → shows E c e ≡ Ok a → (met ≡ true → Headed h a) →
-      (ps : List Part) → pair_form E (kept_of c e) met m n g h ≡ Ok ps → To E c g ps
-  pair_to e a (both x y) m n met q k ps w = go (is_taken E (kept_of c e) m) (is_taken E (slot m (hypothesis x) ∷ kept_of c e) n) met k w
-    where
-      more : List Slot
-      more = slot n (hypothesis y) ∷ slot m (hypothesis x) ∷ []
+  -- evidence that shows a, and two names for its parts
+  module _ (e : Evidence) (a : Formula) (m n : List ℕ) (met : Bool) (q : shows E c e ≡ Ok a) where
+    pair_to : (h : Formula) → (met ≡ true → Headed h a) → (ps : List Part) → pair_form E (kept_of c e) met m n g h ≡ Ok ps → To E c g ps
+    pair_to (both x y) k ps w = go (is_taken E (kept_of c e) m) (is_taken E (slot m (hypothesis x) ∷ kept_of c e) n) met k w
+      where
+        more : List Slot
+        more = slot n (hypothesis y) ∷ slot m (hypothesis x) ∷ []
 
-      go : (t u v : Bool) → (v ≡ true → Headed (both x y) a) →
-          (if t then Err name_taken else (if u then Err name_taken else if_met v (part more (kept_of c e) g ∷ []))) ≡ Ok ps → To E c g ps
-      go true u v k d = absurd cc
-      go false true v k d = absurd cc
-      go false false false k d = absurd cc
-      go false false true k d =
-          let z = k refl in
-          subst (To E c g) (ok_injective (part more (kept_of c e) g ∷ []) ps d)
-          (by_rule (and_e x y) (entries c) g z.1 (and_then_those (z.2 (both x y) (sym z.0))
-          (keep_to more e a g q (left_open (more ++ kept_of c e) g nothing))))
-  pair_to e a (ex s x b) m n met q k ps w = go (is_taken E (kept_of c e) m) (is_taken E (slot m (variable s) ∷ kept_of c e) n) met k w
-    where
-      more : List Slot
-      more = slot n (hypothesis b) ∷ slot m (variable s) ∷ []
+        go : (t u v : Bool) → (v ≡ true → Headed (both x y) a) →
+            (if t then Err name_taken else (if u then Err name_taken else if_met v (part more (kept_of c e) g ∷ []))) ≡ Ok ps → To E c g ps
+        go true u v k d = absurd cc
+        go false true v k d = absurd cc
+        go false false false k d = absurd cc
+        go false false true k d =
+            let z = k refl in
+            subst (To E c g) (ok_injective (part more (kept_of c e) g ∷ []) ps d)
+            (by_rule (and_e x y) (entries c) g z.1 (and_then_those (z.2 (both x y) (sym z.0))
+            (keep_to more e a g q (left_open (more ++ kept_of c e) g nothing))))
+    pair_to (ex s x b) k ps w = go (is_taken E (kept_of c e) m) (is_taken E (slot m (variable s) ∷ kept_of c e) n) met k w
+      where
+        more : List Slot
+        more = slot n (hypothesis b) ∷ slot m (variable s) ∷ []
 
-      go : (t u v : Bool) → (v ≡ true → Headed (ex s x b) a) →
-          (if t then Err name_taken else (if u then Err name_taken else if_met v (part more (kept_of c e) (under g) ∷ [])))
-          ≡ Ok ps → To E c g ps
-      go true u v k d = absurd cc
-      go false true v k d = absurd cc
-      go false false false k d = absurd cc
-      go false false true k d =
-          let z = k refl in
-          subst (To E c g) (ok_injective (part more (kept_of c e) (under g) ∷ []) ps d)
-          (by_rule (ex_e s b) (entries c) g z.1 (and_then_those (z.2 (ex s plain b) (sym z.0 ∙ same_ex_named E s x plain b))
-          (keep_to more e a (under g) q (left_open (more ++ kept_of c e) (under g) nothing))))
-  pair_to e a h m n met q k ps w = absurd cc
+        go : (t u v : Bool) → (v ≡ true → Headed (ex s x b) a) →
+            (if t then Err name_taken else (if u then Err name_taken else if_met v (part more (kept_of c e) (under g) ∷ [])))
+            ≡ Ok ps → To E c g ps
+        go true u v k d = absurd cc
+        go false true v k d = absurd cc
+        go false false false k d = absurd cc
+        go false false true k d =
+            let z = k refl in
+            subst (To E c g) (ok_injective (part more (kept_of c e) (under g) ∷ []) ps d)
+            (by_rule (ex_e s b) (entries c) g z.1 (and_then_those (z.2 (ex s plain b) (sym z.0 ∙ same_ex_named E s x plain b))
+            (keep_to more e a (under g) q (left_open (more ++ kept_of c e) (under g) nothing))))
+    pair_to h k ps w = absurd cc
 
-  cases_to : (e : Evidence) (a h : Formula) (m n : List ℕ) (met : Bool) → shows E c e ≡ Ok a → (met ≡ true → Headed h a) →
-      (ps : List Part) → cases_form E (kept_of c e) met m n g h ≡ Ok ps → To E c g ps
-  cases_to e a (either x y) m n met q k ps w = go (is_taken E (kept_of c e) m) (is_taken E (kept_of c e) n) met k w
-    where
-      both_parts : List Part
-      both_parts = part (slot m (hypothesis x) ∷ []) (kept_of c e) g ∷ part (slot n (hypothesis y) ∷ []) (kept_of c e) g ∷ []
+    cases_to : (h : Formula) → (met ≡ true → Headed h a) → (ps : List Part) → cases_form E (kept_of c e) met m n g h ≡ Ok ps → To E c g ps
+    cases_to (either x y) k ps w = go (is_taken E (kept_of c e) m) (is_taken E (kept_of c e) n) met k w
+      where
+        both_parts : List Part
+        both_parts = part (slot m (hypothesis x) ∷ []) (kept_of c e) g ∷ part (slot n (hypothesis y) ∷ []) (kept_of c e) g ∷ []
 
-      go : (t u v : Bool) → (v ≡ true → Headed (either x y) a) →
-          (if t then Err name_taken else (if u then Err name_taken else if_met v both_parts)) ≡ Ok ps → To E c g ps
-      go true u v k d = absurd cc
-      go false true v k d = absurd cc
-      go false false false k d = absurd cc
-      go false false true k d =
-          let z = k refl in
-          subst (To E c g) (ok_injective both_parts ps d)
-          (by_rule (or_e x y) (entries c) g z.1 (and_then_those (z.2 (either x y) (sym z.0))
-          (keep_to (slot m (hypothesis x) ∷ []) e a g q (left_open (slot m (hypothesis x) ∷ kept_of c e) g
-          (keep_to (slot n (hypothesis y) ∷ []) e a g q (left_open (slot n (hypothesis y) ∷ kept_of c e) g nothing))))))
-  cases_to e a h m n met q k ps w = absurd cc
+        go : (t u v : Bool) → (v ≡ true → Headed (either x y) a) →
+            (if t then Err name_taken else (if u then Err name_taken else if_met v both_parts)) ≡ Ok ps → To E c g ps
+        go true u v k d = absurd cc
+        go false true v k d = absurd cc
+        go false false false k d = absurd cc
+        go false false true k d =
+            let z = k refl in
+            subst (To E c g) (ok_injective both_parts ps d)
+            (by_rule (or_e x y) (entries c) g z.1 (and_then_those (z.2 (either x y) (sym z.0))
+            (keep_to (slot m (hypothesis x) ∷ []) e a g q (left_open (slot m (hypothesis x) ∷ kept_of c e) g
+            (keep_to (slot n (hypothesis y) ∷ []) e a g q (left_open (slot n (hypothesis y) ∷ kept_of c e) g nothing))))))
+    cases_to h k ps w = absurd cc
 
   falsity_to : (a h : Formula) (met : Bool) → (met ≡ true → Headed h a) → (ps : List Part) → falsity_form met h ≡ Ok ps → To E c g ps
   falsity_to a falsity true k ps w = let z = k refl in subst (To E c g) (ok_injective [] ps w) (by_rule false_e (entries c) g tt
@@ -355,72 +366,66 @@ module _ (E : List Declaration) (l : Lawful E) (c : List Slot) (g : Formula) (f 
   clear_to h (Some i) q ps w = subst (To E c g) (ok_injective (part [] (slots_without c i) g ∷ []) ps w)
       (drop_to [] i g (named_below c h i q) (left_open (slots_without c i) g nothing))
 
-  unfold_to : (d : Declaration) (h : List ℕ) (i : ℕ) (o : Option Formula) → find E (name_of d) ≡ Some d → i < count (entries c)
-      → hypothesis_at (entries c) i ≡ o → (ps : List Part) → unfolded_in d c h i o g ≡ Ok ps → To E c g ps
-  unfold_to d h i None m b q ps w = absurd cc
-  unfold_to d h i (Some a) m b q ps w = go (mentions (name_of d) a) w
-    where
-      x : Slot
-      x = slot h (hypothesis (expand d a))
+  -- a declaration of the environment, unfolded in the hypothesis h
+  module _ (d : Declaration) (m : find E (name_of d) ≡ Some d) (h : List ℕ) (ps : List Part) where
+    unfold_to : (i : ℕ) (o : Option Formula) → i < count (entries c) → hypothesis_at (entries c) i ≡ o →
+        unfolded_in d c h i o g ≡ Ok ps → To E c g ps
+    unfold_to i None b q w = absurd cc
+    unfold_to i (Some a) b q w = go (mentions (name_of d) a) w
+      where
+        x : Slot
+        x = slot h (hypothesis (expand d a))
 
-      is : IsHypothesis (entries c) i a
-      is = hypothesis_at_is (entries c) i a q
+        is : IsHypothesis (entries c) i a
+        is = hypothesis_at_is (entries c) i a q
 
-      k : WellFormed E (variables (entries c)) a
-      k = hypotheses_formed E (entries c) a f (is_member (entries c) i a is)
+        k : WellFormed E (variables (entries c)) a
+        k = hypotheses_formed E (entries c) a f (is_member (entries c) i a is)
 
-      go : (v : Bool) → ◌≡◌ {A = Result (List Part) Fault} (if v then Ok (part (x ∷ []) (slots_without c i) g ∷ [])
-          else Ok (part [] c g ∷ [])) (Ok ps) → To E c g ps
-      go true w = subst (To E c g) (ok_injective (part (x ∷ []) (slots_without c i) g ∷ []) ps w)
-          (by_rule (cut (expand d a)) (entries c) g (l.unfold_formed (name_of d) d m (variables (entries c)) a k)
-          (by_rule (hyp i) (entries c) (expand d a) (a, is, sym (l.unfold_same (name_of d) d m a))
-          (drop_to (x ∷ []) i g b (left_open (x ∷ slots_without c i) g nothing))))
-      go false w = subst (To E c g) (ok_injective (part [] c g ∷ []) ps w) (left_open c g nothing)
+        go : (v : Bool) → ◌≡◌ {A = Result (List Part) Fault} (if v then Ok (part (x ∷ []) (slots_without c i) g ∷ [])
+            else Ok (part [] c g ∷ [])) (Ok ps) → To E c g ps
+        go true w = subst (To E c g) (ok_injective (part (x ∷ []) (slots_without c i) g ∷ []) ps w)
+            (by_rule (cut (expand d a)) (entries c) g (l.unfold_formed (name_of d) d m (variables (entries c)) a k)
+            (by_rule (hyp i) (entries c) (expand d a) (a, is, sym (l.unfold_same (name_of d) d m a))
+            (drop_to (x ∷ []) i g b (left_open (x ∷ slots_without c i) g nothing))))
+        go false w = subst (To E c g) (ok_injective (part [] c g ∷ []) ps w) (left_open c g nothing)
 
-  unfold_row_to : (d : Declaration) (h : List ℕ) (o : Option ℕ) → find E (name_of d) ≡ Some d → hypothesis_named c h ≡ o →
-      (ps : List Part) → unfold_row d c h o g ≡ Ok ps → To E c g ps
-  unfold_row_to d h None m q ps w = absurd cc
-  unfold_row_to d h (Some i) m q ps w = unfold_to d h i (hypothesis_at (entries c) i) m (named_below c h i q) refl ps w
+    unfold_row_to : (o : Option ℕ) → hypothesis_named c h ≡ o → unfold_row d c h o g ≡ Ok ps → To E c g ps
+    unfold_row_to None q w = absurd cc
+    unfold_row_to (Some i) q w = unfold_to i (hypothesis_at (entries c) i) (named_below c h i q) refl w
 
--- intros, as long as the goal as written goes on
-intro_all_to : (E : List Declaration) (more kept : List Slot) (a : Formula) → WellFormed E (variables (entries (more ++ kept)))
-    a → Leads E (seq (entries (more ++ kept)) a ∷ []) (opened (intro_all E more kept a) ∷ [])
-intro_all_to E more kept (all s x b) w = let n = fresh E (more ++ kept) x in by_rule (all_i s b) (entries (more ++ kept))
-    (all s x b) (w, same_all_named E s plain x b) (intro_all_to E (slot n (variable s) ∷ more) kept b w.1)
-intro_all_to E more kept (implies a b) w = let n = fresh E (more ++ kept) (codes "H") in
-    by_rule (imp_i a b) (entries (more ++ kept)) (implies a b) (w, refl) (intro_all_to E (slot n (hypothesis a) ∷ more) kept b w.1)
-intro_all_to E more kept a w = left_open (more ++ kept) a nothing
+  -- the form that is looked at
+  form : WellFormed E (variables (entries c)) g → IsForm (head_form E g)
+  form w = (l.head_same g, l.head_formed (variables (entries c)) g w)
 
--- a row that goes well leads to its parts
-pub row_to : (E : List Declaration) → Lawful E → (c : List Slot) (g : Formula) → FormedContext E (entries c) →
-    WellFormed E (variables (entries c)) g → (r : Refinement) → IsTypedRow E c r → (ps : List Part) → row E c g r ≡ Ok ps → To E c g ps
-row_to E l c g f w (intro n) y ps e = intro_to E l c g f n (head_form E g) (l.head_same g) (l.head_formed (variables (entries c)) g w) ps e
-row_to E l c g f w intros y ps e = subst (To E c g) (ok_injective (intro_all E [] c g ∷ []) ps e) (intro_all_to E [] c g w)
-row_to E l c g f w (exact d) y ps e = exact_to E l c g f d y ps e
-row_to E l c g f w (apply d) y ps e = apply_to E l c g f w d y ps e
-row_to E l c g f w (rewrite way d) y ps e = rewrite_to E l c g f w way d y ps e
-row_to E l c g f w by_hypothesis y ps e = assumption_to E l c g f (has_same E (hypotheses (entries c)) g) refl ps e
-row_to E l c g f w split y ps e = split_to E l c g f (head_form E g) (l.head_same g) (l.head_formed (variables (entries c)) g w) ps e
-row_to E l c g f w left y ps e = left_to E l c g f (head_form E g) (l.head_same g) (l.head_formed (variables (entries c)) g w) ps e
-row_to E l c g f w right y ps e = right_to E l c g f (head_form E g) (l.head_same g) (l.head_formed (variables (entries c)) g w) ps e
-row_to E l c g f w exfalso y ps e = subst (To E c g) (ok_injective (part [] c falsity ∷ []) ps e)
-    (by_rule false_e (entries c) g tt (left_open c falsity nothing))
-row_to E l c g f w (witness s t p) y ps e = witness_to E l c g f s t p (head_form E g) (l.head_same g)
-    (l.head_formed (variables (entries c)) g w) y ps e
-row_to E l c g f w (destruct_pair d m n) y ps e = destruct_to E l c g f d (pair_form E (kept_of c d) (is_met E c d) m n g) y ps
-    (λ a q k v. pair_to E l c g f d a (head_form E a) m n (is_met E c d) q k ps v) e
-row_to E l c g f w (destruct_cases d m n) y ps e = destruct_to E l c g f d (cases_form E (kept_of c d) (is_met E c d) m n g) y
-    ps (λ a q k v. cases_to E l c g f d a (head_form E a) m n (is_met E c d) q k ps v) e
-row_to E l c g f w (destruct_falsity d) y ps e = destruct_to E l c g f d (falsity_form (is_met E c d)) y ps
-    (λ a q k v. falsity_to E l c g f a (head_form E a) (is_met E c d) k ps v) e
-row_to E l c g f w (assert n a) y ps e = assert_to E l c g f n a (is_taken E c n) y ps e
-row_to E l c g f w (clear h) y ps e = clear_to E l c g f h (hypothesis_named c h) refl ps e
-row_to E l c g f w reflexivity y ps e = reflexivity_to E l c g f (head_form E g) (l.head_same g)
-    (l.head_formed (variables (entries c)) g w) ps e
-row_to E l c g f w symmetry y ps e = symmetry_to E l c g f (head_form E g) (l.head_same g) (l.head_formed (variables (entries c)) g w) ps e
-row_to E l c g f w (unfold_goal d) y ps e = subst (To E c g) (ok_injective (part [] c (expand d g) ∷ []) ps e)
-    (by_rule (conv (expand d g)) (entries c) g (
-      l.unfold_formed (name_of d) d y (variables (entries c)) g w,
-      l.unfold_same (name_of d) d y g,
-    ) (left_open c (expand d g) nothing))
-row_to E l c g f w (unfold_in d h) y ps e = unfold_row_to E l c g f d h (hypothesis_named c h) y refl ps e
+  -- a row that goes well leads to its parts
+  pub row_to : WellFormed E (variables (entries c)) g → (r : Refinement) → IsTypedRow E c r → (ps : List Part) → row E c g r ≡ Ok ps →
+      To E c g ps
+  row_to w (intro n) y ps e = intro_to n (head_form E g) (form w) ps e
+  row_to w intros y ps e = subst (To E c g) (ok_injective (intro_all E [] c g ∷ []) ps e) (intro_all_to E [] c g w)
+  row_to w (exact d) y ps e = exact_to d y ps e
+  row_to w (apply d) y ps e = apply_to E l c g f w d y ps e
+  row_to w (rewrite way d) y ps e = rewrite_to E l c g f w way d y ps e
+  row_to w by_hypothesis y ps e = assumption_to (has_same E (hypotheses (entries c)) g) refl ps e
+  row_to w split y ps e = split_to (head_form E g) (form w) ps e
+  row_to w left y ps e = left_to (head_form E g) (form w) ps e
+  row_to w right y ps e = right_to (head_form E g) (form w) ps e
+  row_to w exfalso y ps e = subst (To E c g) (ok_injective (part [] c falsity ∷ []) ps e)
+      (by_rule false_e (entries c) g tt (left_open c falsity nothing))
+  row_to w (witness s t p) y ps e = witness_to s t p (head_form E g) (form w) y ps e
+  row_to w (destruct_pair d m n) y ps e = destruct_to d (pair_form E (kept_of c d) (is_met E c d) m n g) y ps
+      (λ a q k v. pair_to d a m n (is_met E c d) q (head_form E a) k ps v) e
+  row_to w (destruct_cases d m n) y ps e = destruct_to d (cases_form E (kept_of c d) (is_met E c d) m n g) y
+      ps (λ a q k v. cases_to d a m n (is_met E c d) q (head_form E a) k ps v) e
+  row_to w (destruct_falsity d) y ps e = destruct_to d (falsity_form (is_met E c d)) y ps
+      (λ a q k v. falsity_to a (head_form E a) (is_met E c d) k ps v) e
+  row_to w (assert n a) y ps e = assert_to n a (is_taken E c n) y ps e
+  row_to w (clear h) y ps e = clear_to h (hypothesis_named c h) refl ps e
+  row_to w reflexivity y ps e = reflexivity_to (head_form E g) (form w) ps e
+  row_to w symmetry y ps e = symmetry_to (head_form E g) (form w) ps e
+  row_to w (unfold_goal d) y ps e = subst (To E c g) (ok_injective (part [] c (expand d g) ∷ []) ps e)
+      (by_rule (conv (expand d g)) (entries c) g (
+        l.unfold_formed (name_of d) d y (variables (entries c)) g w,
+        l.unfold_same (name_of d) d y g,
+      ) (left_open c (expand d g) nothing))
+  row_to w (unfold_in d h) y ps e = unfold_row_to d y h ps (hypothesis_named c h) refl e

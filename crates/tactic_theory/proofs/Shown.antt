@@ -88,33 +88,33 @@ module _ (E : List Declaration) (l : Lawful E) (c : List Slot) (f : FormedContex
             g (b, h, s) nothing,
       )
 
-  shown_term : (h a : Formula) (s : List ℕ) (t : Term) → Same E h a → WellFormed E (variables (entries c)) h →
-      HasSort E (variables (entries c)) t s → ((g : Formula) → Same E a g → Leads E (seq (entries c) g ∷ []) []) →
-      (z : Formula) → put_term s t h ≡ Ok z → Shown E c z
-  shown_term (all r x b) a s t q w k lead z e = go (is_name r s) (bytes_decides r s) e
-    where
-      go : (v : Bool) → Decides v (r ≡ s) → (if v then Ok (instantiate b t) else Err not_of_form) ≡ Ok z → Shown E c z
-      go true d p =
-          let kr = subst (HasSort E (variables (entries c)) t) (sym (d.0 refl)) k in
-          subst (Shown E c) (ok_injective (instantiate b t) z p) (
-            replace_formed E (first t) (r ∷ variables (entries c)) (variables (entries c)) (fits_first E (variables (entries c))
-                t r kr) b w.1,
-            λ g v. by_rule (all_e r b t) (entries c) g (w, kr, v) (lead (all r plain b) (sym q ∙ same_all_named E r x plain b)),
-          )
-      go false d p = absurd cc
-  shown_term h a s t q w k lead z e = absurd cc
+  -- a formula, and a tree without open leaves for each that is the same
+  module _ (a : Formula) (lead : (g : Formula) → Same E a g → Leads E (seq (entries c) g ∷ []) []) where
+    shown_term : (h : Formula) (s : List ℕ) (t : Term) → Same E h a → WellFormed E (variables (entries c)) h →
+        HasSort E (variables (entries c)) t s → (z : Formula) → put_term s t h ≡ Ok z → Shown E c z
+    shown_term (all r x b) s t q w k z e = go (is_name r s) (bytes_decides r s) e
+      where
+        go : (v : Bool) → Decides v (r ≡ s) → (if v then Ok (instantiate b t) else Err not_of_form) ≡ Ok z → Shown E c z
+        go true d p =
+            let kr = subst (HasSort E (variables (entries c)) t) (sym (d.0 refl)) k in
+            subst (Shown E c) (ok_injective (instantiate b t) z p) (
+              replace_formed E (first t) (r ∷ variables (entries c)) (variables (entries c)) (fits_first E (variables (entries c))
+                  t r kr) b w.1,
+              λ g v. by_rule (all_e r b t) (entries c) g (w, kr, v) (lead (all r plain b) (sym q ∙ same_all_named E r x plain b)),
+            )
+        go false d p = absurd cc
+    shown_term h s t q w k z e = absurd cc
 
-  shown_proof : (h a p : Formula) → Same E h a → WellFormed E (variables (entries c)) h →
-      ((g : Formula) → Same E a g → Leads E (seq (entries c) g ∷ []) []) →
-      ((g : Formula) → Same E p g → Leads E (seq (entries c) g ∷ []) []) → takes E h p ≡ true → (z : Formula) →
-      conclusion h ≡ Ok z → Shown E c z
-  shown_proof (implies x b) a p q w lead other m z e =
-      subst (Shown E c) (ok_injective b z e) (
-        w.1,
-        λ g v. by_rule (imp_e x) (entries c) g w.0
-            (and_then_those (lead (implies x g) (sym q ∙ same_implies E x b x g refl v)) (other x (sym ((is_same_decides E x p).0 m)))),
-      )
-  shown_proof h a p q w lead other m z e = absurd cc
+    shown_proof : (h p : Formula) → Same E h a → WellFormed E (variables (entries c)) h →
+        ((g : Formula) → Same E p g → Leads E (seq (entries c) g ∷ []) []) → takes E h p ≡ true → (z : Formula) →
+        conclusion h ≡ Ok z → Shown E c z
+    shown_proof (implies x b) p q w other m z e =
+        subst (Shown E c) (ok_injective b z e) (
+          w.1,
+          λ g v. by_rule (imp_e x) (entries c) g w.0
+              (and_then_those (lead (implies x g) (sym q ∙ same_implies E x b x g refl v)) (other x (sym ((is_same_decides E x p).0 m)))),
+        )
+    shown_proof h p q w other m z e = absurd cc
 
   pub shown : (e : Evidence) → IsTyped E c e → is_met E c e ≡ true → (a : Formula) → shows E c e ≡ Ok a → Shown E c a
   shown (assumed i) t m a e = shown_known i (hypothesis_at (entries c) i) a refl e
@@ -127,8 +127,8 @@ module _ (E : List Declaration) (l : Lawful E) (c : List Slot) (f : FormedContex
     where
       go : (r : Result Formula Fault) → ((b : Formula) → r ≡ Ok b → Shown E c b) →
           and_then r (λ b. put_term s t (head_form E b)) ≡ Ok a → Shown E c a
-      go (Ok b) h q = let k = h b refl in shown_term (head_form E b) b s t (l.head_same b)
-          (l.head_formed (variables (entries c)) b k.0) y.1 k.1 a q
+      go (Ok b) h q = let k = h b refl in shown_term b k.1 (head_form E b) s t (l.head_same b)
+          (l.head_formed (variables (entries c)) b k.0) y.1 a q
       go (Err x) h q = absurd cc
   shown (with_proof d u) y m a e =
       let m1 = both_true (is_met E c d) (is_met E c u && meets E (shows E c d) (shows E c u)) m in
@@ -137,7 +137,7 @@ module _ (E : List Declaration) (l : Lawful E) (c : List Slot) (f : FormedContex
     where
       go : (r v : Result Formula Fault) → ((b : Formula) → r ≡ Ok b → Shown E c b) → ((b : Formula) → v ≡ Ok b → Shown E c b) →
           meets E r v ≡ true → and_then r (λ b. and_then v (λ p. conclusion (head_form E b))) ≡ Ok a → Shown E c a
-      go (Ok b) (Ok p) h k n q = let x = h b refl in shown_proof (head_form E b) b p (l.head_same b)
-          (l.head_formed (variables (entries c)) b x.0) x.1 (k p refl).1 n a q
+      go (Ok b) (Ok p) h k n q = let x = h b refl in shown_proof b x.1 (head_form E b) p (l.head_same b)
+          (l.head_formed (variables (entries c)) b x.0) (k p refl).1 n a q
       go (Ok b) (Err x) h k n q = absurd cc
       go (Err x) v h k n q = absurd cc

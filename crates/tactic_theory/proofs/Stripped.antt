@@ -196,32 +196,32 @@ more_goals : (c : List Slot) (σ : ℕ → Term) (ps : List Formula) (p : Formul
 more_goals c σ [] p = refl
 more_goals c σ (q ∷ ps) p = ap (λ l. goal c (replace σ q) ∷ l) (more_goals c σ ps p)
 
-pub strip_leads : (E : List Declaration) → Lawful E → (c : List Slot) (a : Formula) → WellFormed E (variables (entries c)) a →
-    ((z : Formula) → Same E a z → Leads E (seq (entries c) z ∷ []) [])
-    → (s : Strip) → Stripped E a s → (σ : ℕ → Term) → Lowers (length s.sorts) σ → Fits E σ (s.sorts ++ variables (entries c))
-    (variables (entries c)) → (z : Formula) → Same E (replace σ s.rest) z → Leads E (seq (entries c) z ∷ [])
-    (premise_goals c σ s.premises)
-strip_leads E l c a w lead s unstripped σ h f z q = lead z (subst (λ y. Same E y z) (none_open σ a h) q)
-strip_leads E l c a w lead t (quantifier s r x b k e) σ h f z q =
-    let V : List (List ℕ) = variables (entries c) in
-    let τ : ℕ → Term = λ i. σ (suc i) in
-    let fτ : Fits E τ (s.sorts ++ V) V = λ i y p. f (suc i) y p in
-    let m = stripped_formed E l V a s w k in
-    let n : WellFormed E (s.sorts ++ V) (all r x b) = subst (WellFormed E (s.sorts ++ V)) e (l.head_formed (s.sorts ++ V) s.rest m) in
-    let is : Same E (replace τ s.rest) (all r plain (replace (lift τ) b)) =
-    sym (same_replace E τ (head_form E s.rest) s.rest (l.head_same s.rest)) ∙ (λ i. unnamed (normal E (replace τ (e i)))) ∙
-    same_all_named E r x plain (replace (lift τ) b) in
-    by_rule (all_e r (replace (lift τ) b) (σ zero)) (entries c) z
-    (replace_formed E τ (s.sorts ++ V) V fτ (all r x b) n, f zero r refl, subst (λ y. Same E y z) (sym (one_first σ b)) q)
-    (subst (Leads E (seq (entries c) (all r plain (replace (lift τ) b)) ∷ [])) (under_goals c σ s.premises)
-    (strip_leads E l c a w lead s k τ (lowers_less (length s.sorts) σ h) fτ (all r plain (replace (lift τ) b)) is))
-strip_leads E l c a w lead t (premise s p b k e) σ h f z q =
-    let V : List (List ℕ) = variables (entries c) in
-    let m = stripped_formed E l V a s w k in
-    let n : WellFormed E (s.sorts ++ V) (implies p b) = subst (WellFormed E (s.sorts ++ V)) e (l.head_formed (s.sorts ++ V) s.rest m) in
-    let is : Same E (replace σ s.rest) (implies (replace σ p) z) =
-    sym (same_replace E σ (head_form E s.rest) s.rest (l.head_same s.rest)) ∙ (λ i. unnamed (normal E (replace σ (e i)))) ∙
-    same_implies E (replace σ p) (replace σ b) (replace σ p) z refl q in
-    by_rule (imp_e (replace σ p)) (entries c) z (replace_formed E σ (s.sorts ++ V) V f p n.0)
-    (subst (Leads E (seq (entries c) (implies (replace σ p) z) ∷ seq (entries c) (replace σ p) ∷ [])) (more_goals c σ s.premises p)
-    (and_then_those (strip_leads E l c a w lead s k σ h f (implies (replace σ p) z) is) (left_open c (replace σ p) nothing)))
+module _ (E : List Declaration) (l : Lawful E) (c : List Slot) (a : Formula) (w : WellFormed E (variables (entries c)) a)
+    (lead : (z : Formula) → Same E a z → Leads E (seq (entries c) z ∷ []) []) where
+  pub strip_leads : (s : Strip) → Stripped E a s → (σ : ℕ → Term) → Lowers (length s.sorts) σ →
+      Fits E σ (s.sorts ++ variables (entries c)) (variables (entries c)) → (z : Formula) → Same E (replace σ s.rest) z →
+      Leads E (seq (entries c) z ∷ []) (premise_goals c σ s.premises)
+  strip_leads s unstripped σ h f z q = lead z (subst (λ y. Same E y z) (none_open σ a h) q)
+  strip_leads t (quantifier s r x b k e) σ h f z q =
+      let V : List (List ℕ) = variables (entries c) in
+      let τ : ℕ → Term = λ i. σ (suc i) in
+      let fτ : Fits E τ (s.sorts ++ V) V = λ i y p. f (suc i) y p in
+      let m = stripped_formed E l V a s w k in
+      let n : WellFormed E (s.sorts ++ V) (all r x b) = subst (WellFormed E (s.sorts ++ V)) e (l.head_formed (s.sorts ++ V) s.rest m) in
+      let is : Same E (replace τ s.rest) (all r plain (replace (lift τ) b)) =
+      sym (same_replace E τ (head_form E s.rest) s.rest (l.head_same s.rest)) ∙ (λ i. unnamed (normal E (replace τ (e i)))) ∙
+      same_all_named E r x plain (replace (lift τ) b) in
+      by_rule (all_e r (replace (lift τ) b) (σ zero)) (entries c) z
+      (replace_formed E τ (s.sorts ++ V) V fτ (all r x b) n, f zero r refl, subst (λ y. Same E y z) (sym (one_first σ b)) q)
+      (subst (Leads E (seq (entries c) (all r plain (replace (lift τ) b)) ∷ [])) (under_goals c σ s.premises)
+      (strip_leads s k τ (lowers_less (length s.sorts) σ h) fτ (all r plain (replace (lift τ) b)) is))
+  strip_leads t (premise s p b k e) σ h f z q =
+      let V : List (List ℕ) = variables (entries c) in
+      let m = stripped_formed E l V a s w k in
+      let n : WellFormed E (s.sorts ++ V) (implies p b) = subst (WellFormed E (s.sorts ++ V)) e (l.head_formed (s.sorts ++ V) s.rest m) in
+      let is : Same E (replace σ s.rest) (implies (replace σ p) z) =
+      sym (same_replace E σ (head_form E s.rest) s.rest (l.head_same s.rest)) ∙ (λ i. unnamed (normal E (replace σ (e i)))) ∙
+      same_implies E (replace σ p) (replace σ b) (replace σ p) z refl q in
+      by_rule (imp_e (replace σ p)) (entries c) z (replace_formed E σ (s.sorts ++ V) V f p n.0)
+      (subst (Leads E (seq (entries c) (implies (replace σ p) z) ∷ seq (entries c) (replace σ p) ∷ [])) (more_goals c σ s.premises p)
+      (and_then_those (strip_leads s k σ h f (implies (replace σ p) z) is) (left_open c (replace σ p) nothing)))

@@ -81,44 +81,45 @@ start_typed E c x (known_declared (term n ps s b)) o h e q = absurd (none_ok _ _
 start_typed E c x (known_declared (formula n ps b)) o h e q = absurd (none_ok _ _ _ q)
 start_typed E c x unknown o h e q = absurd (none_ok _ _ _ q)
 
--- a term of the sort that is asked
-argument_sort : (E : List Declaration) (c : List Slot) (a : Expression) (r : List ℕ) (t : Term) →
-    and_then (term_of E (locals_in c) a) (of_sort r (span_of a)) ≡ Ok t → HasSort E (variables (entries c)) t r
-argument_sort E c a r t e = let j = steps (term_of E (locals_in c) a) (of_sort r (span_of a)) t e in
-    subst (λ V. HasSort E V t r) (locals_sorts c)
-    (of_sort_formed E (sorts_in (locals_in c)) r (span_of a) j.0 t (term_formed E (locals_in c) a j.0 j.1) j.2)
+module _ (E : List Declaration) (c : List Slot) where
+  -- a term of the sort that is asked
+  argument_sort : (a : Expression) (r : List ℕ) (t : Term) →
+      and_then (term_of E (locals_in c) a) (of_sort r (span_of a)) ≡ Ok t → HasSort E (variables (entries c)) t r
+  argument_sort a r t e = let j = steps (term_of E (locals_in c) a) (of_sort r (span_of a)) t e in
+      subst (λ V. HasSort E V t r) (locals_sorts c)
+      (of_sort_formed E (sorts_in (locals_in c)) r (span_of a) j.0 t (term_formed E (locals_in c) a j.0 j.1) j.2)
 
-argument_typed : (E : List Declaration) (c : List Slot) (f : Formula) (e : Evidence) (a : Expression) → IsTyped E c e →
-    ((q : Evidence) → evidence_of E c a ≡ Ok q → IsTyped E c q) →
-    (d : Evidence) → with_argument f e (span_of a) (term_of E (locals_in c) a) (evidence_of E c a) ≡ Ok d → IsTyped E c d
-argument_typed E c (all r x b) e a h k d w =
-    let j = both_steps (from_typing (and_then (term_of E (locals_in c) a) (of_sort r (span_of a)))) (λ u. Ok (with_term e r u)) d w in
-    subst (IsTyped E c) (ok_of Evidence _ _ j.2) (h, argument_sort E c a r j.0 (typing_ok _ j.0 j.1))
-argument_typed E c (implies p b) e a h k d w = let j = both_steps (evidence_of E c a) (λ q. Ok (with_proof e q)) d w in
-    subst (IsTyped E c) (ok_of Evidence _ _ j.2) (h, k j.0 j.1)
-argument_typed E c f e a h k d w = absurd (none_ok _ _ _ w)
+  argument_typed : (f : Formula) (e : Evidence) (a : Expression) → IsTyped E c e →
+      ((q : Evidence) → evidence_of E c a ≡ Ok q → IsTyped E c q) →
+      (d : Evidence) → with_argument f e (span_of a) (term_of E (locals_in c) a) (evidence_of E c a) ≡ Ok d → IsTyped E c d
+  argument_typed (all r x b) e a h k d w =
+      let j = both_steps (from_typing (and_then (term_of E (locals_in c) a) (of_sort r (span_of a)))) (λ u. Ok (with_term e r u)) d w in
+      subst (IsTyped E c) (ok_of Evidence _ _ j.2) (h, argument_sort a r j.0 (typing_ok _ j.0 j.1))
+  argument_typed (implies p b) e a h k d w = let j = both_steps (evidence_of E c a) (λ q. Ok (with_proof e q)) d w in
+      subst (IsTyped E c) (ok_of Evidence _ _ j.2) (h, k j.0 j.1)
+  argument_typed f e a h k d w = absurd (none_ok _ _ _ w)
 
-mutual
-  pub evidence_typed : (E : List Declaration) (c : List Slot) (a : Expression) (e : Evidence) → evidence_of E c a ≡ Ok e → IsTyped E c e
-  evidence_typed E c (constant b p) e w = absurd (none_ok _ _ _ w)
-  evidence_typed E c (application x ys p) e w =
-      let j = both_steps (start (meaning E c x.text) x (hypothesis_named c x.text)) (λ d. with_arguments E c ys d) e w in
-      arguments_typed E c ys j.0
-      (start_typed E c x (meaning E c x.text) (hypothesis_named c x.text) (is_known E (locals_in c) x.text) j.0 j.1) e j.2
-  evidence_typed E c (binary op a b p) e w = absurd (none_ok _ _ _ w)
-  evidence_typed E c (negation a p) e w = absurd (none_ok _ _ _ w)
-  evidence_typed E c (quantified q gs a p) e w = absurd (none_ok _ _ _ w)
+  mutual
+    pub evidence_typed : (a : Expression) (e : Evidence) → evidence_of E c a ≡ Ok e → IsTyped E c e
+    evidence_typed (constant b p) e w = absurd (none_ok _ _ _ w)
+    evidence_typed (application x ys p) e w =
+        let j = both_steps (start (meaning E c x.text) x (hypothesis_named c x.text)) (λ d. with_arguments E c ys d) e w in
+        arguments_typed ys j.0
+        (start_typed E c x (meaning E c x.text) (hypothesis_named c x.text) (is_known E (locals_in c) x.text) j.0 j.1) e j.2
+    evidence_typed (binary op a b p) e w = absurd (none_ok _ _ _ w)
+    evidence_typed (negation a p) e w = absurd (none_ok _ _ _ w)
+    evidence_typed (quantified q gs a p) e w = absurd (none_ok _ _ _ w)
 
-  pub arguments_typed : (E : List Declaration) (c : List Slot) (es : Expressions) (e : Evidence) → IsTyped E c e →
-      (d : Evidence) → with_arguments E c es e ≡ Ok d → IsTyped E c d
-  arguments_typed E c tree.nil e h d w = subst (IsTyped E c) (ok_of Evidence _ _ w) h
-  arguments_typed E c (tree.cons a es) e h d w =
-      let make : Formula → Result Evidence Fault = λ f. with_argument (head_form E f) e (span_of a) (term_of E (locals_in c) a)
-      (evidence_of E c a) in
-      let j = both_steps (and_then (shows E c e) make) (λ q. with_arguments E c es q) d w in
-      let k = both_steps (shows E c e) make j.0 j.1 in
-      arguments_typed E c es j.0
-      (argument_typed E c (head_form E k.0) e a h (λ q v. evidence_typed E c a q v) j.0 k.2) d j.2
+    pub arguments_typed : (es : Expressions) (e : Evidence) → IsTyped E c e →
+        (d : Evidence) → with_arguments E c es e ≡ Ok d → IsTyped E c d
+    arguments_typed tree.nil e h d w = subst (IsTyped E c) (ok_of Evidence _ _ w) h
+    arguments_typed (tree.cons a es) e h d w =
+        let make : Formula → Result Evidence Fault = λ f. with_argument (head_form E f) e (span_of a) (term_of E (locals_in c) a)
+        (evidence_of E c a) in
+        let j = both_steps (and_then (shows E c e) make) (λ q. with_arguments E c es q) d w in
+        let k = both_steps (shows E c e) make j.0 j.1 in
+        arguments_typed es j.0
+        (argument_typed (head_form E k.0) e a h (λ q v. evidence_typed a q v) j.0 k.2) d j.2
 
 -- ---- refinements
 
