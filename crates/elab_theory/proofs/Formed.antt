@@ -1,46 +1,8 @@
 -- What an expression is typed as is well formed.
-use Rattle.std.proofs.Common.{
-  ◌≡◌,
-  ℕ,
-  Bool,
-  true,
-  false,
-  List,
-  [],
-  ◌∷◌,
-  length,
-  refl,
-  sym,
-  subst,
-  if◌then◌else◌,
-  ◌==◌,
-  Option,
-  Some,
-  None,
-  Result,
-  Ok,
-  arith,
-}
+use Rattle.std.proofs.Common.{◌≡◌, ℕ, Bool, true, false, List, [], ◌∷◌, length, refl, sym, subst, if◌then◌else◌, ◌==◌, Option, Some, None, Result, Ok, arith}
 use Rattle.std.proofs.lemmas.Bool.Decides.{nat_tests}
 use Rattle.vern_lex.specs.declared.span.Span.{Span}
-use Rattle.vern_grammar.specs.Trees.{
-  Operator,
-  implication,
-  equivalence,
-  disjunction,
-  conjunction,
-  equation,
-  inequation,
-  Name,
-  Group,
-  Expression,
-  constant,
-  application,
-  binary,
-  negation,
-  quantified,
-  Expressions,
-}
+use Rattle.vern_grammar.specs.Trees.{implication, equivalence, disjunction, conjunction, equation, inequation, Name, Group, Expression, constant, application, binary, negation, quantified, Expressions}
 use Rattle.vern_grammar.specs.Trees as tree
 use Rattle.fol_theory.specs.Syntax.{Term, var, app, Terms, cons, Formula, falsity, pred, equal, both, either, implies, is_name}
 use Rattle.env_theory.specs.Declarations.{Declaration, sort, function, predicate, stated, term, formula, find, sorts_of}
@@ -49,38 +11,8 @@ use Rattle.env_theory.proofs.SameNames.{one_name}
 use Rattle.env_theory.proofs.Declared.{sort_declared}
 use Rattle.base_core.specs.Answers.{and_then}
 use Rattle.elab_theory.specs.Faults.{Fault, wrong_sort, wrong_arity}
-use Rattle.elab_theory.specs.Locals.{
-  Local,
-  variable,
-  hypothesis,
-  sorts_in,
-  Known,
-  bound,
-  assumed,
-  declared,
-  unknown,
-  known,
-  declared_or_not,
-  farther,
-}
-use Rattle.elab_theory.specs.Expressions.{
-  span_of,
-  how_many,
-  sort_at,
-  arguments_at,
-  term_at,
-  formula_at,
-  of_sort,
-  term_of,
-  terms_of,
-  equation_of,
-  quantifier,
-  under_names,
-  under_groups,
-  over_names,
-  over_groups,
-  formula_of,
-}
+use Rattle.elab_theory.specs.Locals.{Local, variable, hypothesis, sorts_in, Known, bound, assumed, declared, unknown, known, declared_or_not, farther}
+use Rattle.elab_theory.specs.Expressions.{span_of, how_many, sort_at, arguments_at, term_at, formula_at, of_sort, term_of, terms_of, equation_of, quantifier, under_names, under_groups, over_names, over_groups, formula_of}
 use Rattle.elab_theory.proofs.Results.{ok_is, never, steps, passed}
 
 -- ---- names

@@ -4,7 +4,6 @@ use Rattle.std.proofs.Common.{refl, sym, ap, ◌∙◌, arith, append_assoc, app
 use Rattle.std.proofs.Math.Seq.{take-append_seam, take-append-add}
 use Rattle.std.proofs.lemmas.List.{take-append-drop, take-append-le, length-take}
 use Rattle.vern_grammar.specs.Trees.{Expression, Shape}
-use Rattle.vern_grammar.specs.Trees as made
 use Rattle.vern_lex.specs.declared.span.Span.{Span}
 use Rattle.vern_grammar.specs.Kinds.{Kind, Lexeme}
 use Rattle.vern_grammar.specs.Kinds as kind
