@@ -193,12 +193,7 @@ fn fill_terms(
 
 /// What a variable of the last body stands for: from argument to argument, while these are variables.
 #[cycle(fill_term)]
-fn fill_variable(
-    alloc: Global,
-    frames: &[Frame<'_>],
-    by: u64,
-    index: u64,
-) -> Result<Term, NoMemory>
+fn fill_variable(alloc: Global, frames: &[Frame<'_>], by: u64, index: u64) -> Result<Term, NoMemory>
     ensures { IfOk result (λ r. meaning r ≡ filled (scope_of frames.now) 0 by (var index)) }
 {
     let mut left = frames.len();
