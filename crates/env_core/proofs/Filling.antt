@@ -11,7 +11,7 @@ use Rattle.std.proofs.Math.Path.{fun_ext}
 use Rattle.fol_theory.specs.Syntax.{Term, var, app, Terms, nil, cons, Formula, truth, falsity, pred, equal, both, either, implies, all, ex}
 use Rattle.fol_theory.specs.Syntax.{terms}
 use Rattle.fol_theory.specs.Printing.{unnamed}
-use Rattle.fol_theory.specs.Substitution.{replace_term, replace_terms, replace, raise}
+use Rattle.fol_theory.specs.Substitution.{replace_terms, replace, raise}
 use Rattle.fol_theory.specs.Measures.{term_nodes, terms_nodes}
 use Rattle.fol_theory.proofs.Laws.{replace_twice, replace_identity, terms_identity}
 use Rattle.term_core.specs.Term.{meaning, list_meaning, meaning_step}
@@ -27,7 +27,7 @@ use Rattle.term_core.proofs.Variants.{meaning_Pred, meaning_Eq, meaning_All, mea
 use Rattle.env_theory.specs.Declarations.{Parameter, Declaration, sort, function, predicate, stated, term, formula, find}
 use Rattle.env_theory.specs.Typing.{Environment}
 use Rattle.env_theory.specs.Normal.{many, argument}
-use Rattle.env_theory.specs.Scopes.{Scope, whole, body, under, held, value}
+use Rattle.env_theory.specs.Scopes.{Scope, whole, body, held}
 use Rattle.env_theory.specs.Machine.{formula_body, formula_left}
 use Rattle.env_theory.specs.Heads.{head_form, IsNoPredicate}
 use Rattle.env_theory.proofs.Values.{value_whole, value_parameter, value_bound, value_outside, formula_equal, formula_all, formula_ex}

@@ -9,7 +9,7 @@ ghost use Rattle.env_theory.specs.Typing.{Environment};
 ghost use Rattle.env_theory.specs.Normal.{argument};
 ghost use Rattle.env_theory.specs.Heads.{head_form};
 ghost use Rattle.env_core.specs.Meaning.{declarations};
-ghost use Rattle.env_core.specs.Filled.{scope_of, beneath, filled, all_filled, formula_filled};
+ghost use Rattle.env_core.specs.Filled.{scope_of, filled, all_filled, formula_filled};
 
 use crate::env::Env;
 use base_core::NoMemory;

@@ -182,6 +182,9 @@ fn doublings_that_vanish_are_not_made(rt: HostRuntime) -> Result<(), Fail> {
     let once = g(alloc, Term::Var(0), Term::Var(0))?;
     let wanted = p(alloc, g(alloc, once.copy()?, once.copy()?)?, once)?;
     let a = p(alloc, g(alloc, Term::Var(0), Term::Var(0))?, Term::Var(0))?;
-    assert!(rt; makes(alloc, &frames.as_slice()[..1], &a, &wanted)?);
+    let one = [Frame {
+        arguments: twice.as_slice(),
+    }];
+    assert!(rt; makes(alloc, &one, &a, &wanted)?);
     Ok(())
 }

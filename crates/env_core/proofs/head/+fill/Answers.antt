@@ -1,8 +1,5 @@
-use Rattle.std.proofs.Common.{◌≡◌, sym, ap, ◌∙◌}
-use Rattle.std.specs.Arc.{arc_slice_items, arc_value}
+use Rattle.std.proofs.Common.{sym, ◌∙◌}
 use Rattle.fol_theory.specs.Syntax.{pred, equal, all, ex}
-use Rattle.term_core.specs.Term as term
-use Rattle.term_core.specs.Formula.{meaning}
 use Rattle.term_core.proofs.Variants.{meaning_Pred, meaning_Eq, meaning_All, meaning_Ex}
 use Rattle.env_core.specs.Filled.{scope_of}
 use Rattle.env_core.proofs.Filling.{filled_Pred, filled_Eq, filled_All, filled_Ex}

@@ -1,11 +1,10 @@
-use Rattle.std.proofs.Common.{◌≡◌, ◌+◌, ◌-◌, [], take, refl, sym, ap, ◌∙◌, arith}
+use Rattle.std.proofs.Common.{◌≡◌, ◌-◌, [], take, sym, ap, ◌∙◌, arith}
 use Rattle.std.proofs.lemmas.Grind.{common_steps}
-use Rattle.std.specs.Arc.{arc_slice_items}
-use Rattle.fol_theory.specs.Syntax.{var, app, nil}
+use Rattle.fol_theory.specs.Syntax.{app, nil}
 use Rattle.fol_theory.specs.Measures.{term_nodes}
 use Rattle.term_core.specs.Term.{meaning, list_meaning}
 use Rattle.term_core.proofs.Applications.{meaning_App}
-use Rattle.env_core.specs.Filled.{scope_of, filled, all_filled}
+use Rattle.env_core.specs.Filled.{scope_of, filled}
 use Rattle.env_core.proofs.Results.{if_ok}
 use Rattle.env_core.proofs.Filling.{meaning_Var, filled_bound, older_filled, argument_step, last_variable, element_nodes}
 use Rattle.env_core.proofs.Filling.{all_made}

@@ -1,4 +1,4 @@
-use Rattle.std.proofs.Common.{◌∙◌, ◌≡◌, ◌-◌, get_or, length, sym, ap}
+use Rattle.std.proofs.Common.{sym}
 use Rattle.env_core.proofs.Filling.{argument_at, argument_beyond}
 use Rattle.env_core.proofs.head.argument_of.Goals as goal
 

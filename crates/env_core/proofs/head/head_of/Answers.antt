@@ -1,4 +1,4 @@
-use Rattle.std.proofs.Common.{◌≡◌, refl, sym, ap, ◌∙◌}
+use Rattle.std.proofs.Common.{refl, sym, ap, ◌∙◌}
 use Rattle.fol_theory.specs.Syntax.{pred}
 use Rattle.term_core.specs.Term.{list_meaning}
 use Rattle.term_core.specs.Formula.{meaning}
