@@ -13,3 +13,4 @@ pub mod Sides
 pub mod Told
 pub mod Summing
 pub mod Results
+pub mod Filling

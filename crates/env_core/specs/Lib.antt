@@ -3,3 +3,4 @@ pub mod Layers
 pub mod Rows
 pub mod Weights
 pub mod Summaries
+pub mod Filled

@@ -7,6 +7,7 @@ ghost use Rattle.fol_theory.specs.Contexts.{IsFromLast};
 ghost use Rattle.env_theory.specs.Declarations.{find, name_of};
 ghost use Rattle.env_theory.specs.Typing.{Declares, Environment, HasSort, WellFormed};
 ghost use Rattle.env_theory.specs.Normal.{normal, normal_term};
+ghost use Rattle.env_theory.specs.Heads.{head_form};
 ghost use Rattle.env_theory.specs.Machine.{term_body, formula_body};
 ghost use Rattle.env_theory.specs.Count.{Table, row};
 ghost use Rattle.env_core.specs.Meaning.{declaration, declarations};
@@ -16,6 +17,7 @@ ghost use Rattle.env_core.specs.Summaries.{Projects};
 use crate::declaration::Decl;
 use crate::entries::Entries;
 use crate::entry::{Definition, Entry};
+use crate::head::{fill, head_of};
 use crate::sizes::{Weights, formula_tally, term_tally};
 use crate::summary::{Summary, summary_of};
 use crate::tally::Tally;
@@ -152,6 +154,20 @@ impl Env {
     {
         let _ = &self.entries;
         formula_tally(self, Weights::Each, a)
+    }
+
+    /// The head form of a formula: its predicate's definition is put in until its head isn't a defined predicate. The
+    /// definitions are gone along by a loop, and nothing but the head form is made.
+    pub fn head_form(&self, a: &Formula) -> Result<Formula, NoMemory>
+        ensures { IfOk result (λ r. formula.meaning r ≡ head_form (declarations self.now) (formula.meaning a.now)) }
+    {
+        let alloc = self.entries.allocator();
+        let mut frames = Vec::new(alloc);
+        let head = head_of(self, &mut frames, a)?;
+        if frames.is_empty() {
+            return head.copy();
+        }
+        fill(alloc, frames.as_slice(), 0, head)
     }
 
     /// The summary of a function's definition.

@@ -10,6 +10,7 @@ mod declaration;
 mod entries;
 mod entry;
 mod env;
+mod head;
 mod layer;
 mod sizes;
 mod summary;
