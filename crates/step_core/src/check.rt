@@ -17,7 +17,8 @@ use vern_step::{Raw, Sentence};
 
 /// Checks a declaration or a definition, whose id is `id`, in a state: its verdict, and the state behind it. What is
 /// declared is there exactly where the verdict is good. It is one step, which is ticked also where memory is wanting;
-/// then the state comes back as it was. Time and memory grow with the sentence, not with the state.
+/// then the state comes back as it was. It costs what the sentence does, and, where something is added, the logarithm of the
+/// environment's length on average.
 pub fn one<L: Ledger>(
     alloc: Global,
     state: Standing0,

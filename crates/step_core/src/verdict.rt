@@ -60,7 +60,7 @@ pub fn verdict_text(alloc: Global, verdict: &Verdict) -> Result<Bytes, NoMemory>
         Verdict::Good => {}
         Verdict::Fault(fault) => put_fault(&mut text, fault)?,
         Verdict::Blocked(id) => {
-            text.extend_from_slice(b"blocked by ")?;
+            put(&mut text, b"blocked by ")?;
             put_number(&mut text, *id)?;
         }
     }

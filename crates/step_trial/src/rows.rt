@@ -26,20 +26,28 @@ impl Trial {
         }
     }
 
-    /// Checks the sentence of a row, and puts what is found; `reset` begins anew.
+    /// Checks the sentence of a row, and puts what is found; `reset` begins anew. It goes on with a copy of the state.
     pub fn answer<K: Sink>(self, alloc: Global, row: &str, out: &mut Out<K>) -> Trial {
         if row == "reset" {
             return Trial::new(alloc);
         }
         match sentence_of(alloc, row) {
             Some(sentence) => Trial {
-                state: answer_sentence(alloc, self.state, &sentence, out),
+                state: answer_sentence(alloc, copied(self.state), &sentence, out),
             },
             None => {
                 put_line(b"no declaration", out);
                 self
             }
         }
+    }
+}
+
+/// A copy of a state, or the state itself where memory is wanting.
+fn copied(state: Standing0) -> Standing0 {
+    match state.copy() {
+        Ok(copy) => copy,
+        Err(_) => state,
     }
 }
 
