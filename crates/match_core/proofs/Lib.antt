@@ -1,0 +1,9 @@
+pub mod Lowered
+pub mod Moved
+pub mod Lifted
+pub mod TermChanges
+pub mod FormulaChanges
+pub mod Occurring
+pub mod Known
+pub mod Patterns
+pub mod Finds

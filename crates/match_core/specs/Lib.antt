@@ -1,0 +1,4 @@
+pub mod Moves
+pub mod Tables
+pub mod Changes
+pub mod Indices
