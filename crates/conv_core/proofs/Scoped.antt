@@ -1,10 +1,7 @@
 -- Scopes by number.
-use Rattle.std.proofs.Common.{◌≡◌, ℕ, zero, suc, ◌+◌, ◌-◌, ◌<◌, ◌≤◌, Bool, true, false, List, [], ◌∷◌, ◌++◌, length, get_or, refl}
+use Rattle.std.proofs.Common.{◌≡◌, ℕ, zero, suc, ◌+◌, ◌-◌, ◌<◌, ◌≤◌, true, false, List, [], ◌∷◌, ◌++◌, length, get_or, refl}
 use Rattle.std.proofs.Common.{sym, ap, subst, ◌∙◌, if◌then◌else◌, ◌==◌, arith}
 use Rattle.std.proofs.lemmas.Bool.Decides.{nat_tests}
-use Rattle.term_core.specs.declared.term.Term.{Term}
-use Rattle.term_core.specs.Term.{meaning, list_meaning}
-use Rattle.env_theory.specs.Normal.{many, argument}
 use Rattle.env_theory.specs.Scopes.{Scope, whole, under}
 use Rattle.env_theory.specs.Machine.{leads, Holds}
 use Rattle.conv_core.specs.declared.frame.Frame.{Frame}
@@ -122,35 +119,3 @@ at_whole fs c h = ap (scope_of fs) (nothing c h) ∙ keeps no_scopes 0 fs 0 (ome
   where
     nothing : (c : ℕ) → c ≤ 0 → c ≡ 0
     nothing c h = omega (arith, h)
-
-pub many_terms : (ts : List Term) → many (list_meaning ts) ≡ length ts
-many_terms [] = refl
-many_terms (t ∷ ts) = ap suc (many_terms ts)
-
--- the argument for a variable stands as far from the end
-pub argument_at : (ts : List Term) (i : ℕ) (t : Term) → i < length ts → t ≡ get_or ts (length ts - 1 - i) t
-    → argument (list_meaning ts) i ≡ meaning t
-argument_at [] i t h e = absurd (none h)
-  where
-    none : i < 0 → ⊥
-    none h = omega (arith, h)
-argument_at (u ∷ us) i t h e = go (i == many (list_meaning us)) refl (λ l k. argument_at us i t l k)
-  where
-    size : many (list_meaning us) ≡ length us
-    size = many_terms us
-
-    front : (i m n : ℕ) → m ≡ n → (i == m) ≡ true → suc n - 1 - i ≡ 0
-    front i m n e q = grind (arith, nat_tests)
-
-    inner : (i m n : ℕ) → m ≡ n → i < suc n → (i == m) ≡ false → i < n
-    inner i m n e h q = grind (arith, nat_tests)
-
-    further : (i n : ℕ) → i < n → suc n - 1 - i ≡ suc (n - 1 - i)
-    further i n h = omega (arith, h)
-
-    go : (q : Bool) → (i == many (list_meaning us)) ≡ q → (i < length us → t ≡ get_or us (length us - 1 - i) t
-        → argument (list_meaning us) i ≡ meaning t) →
-        (if q then meaning u else argument (list_meaning us) i) ≡ meaning t
-    go true q f = ap meaning (sym (e ∙ ap (λ k. get_or (u ∷ us) k t) (front i (many (list_meaning us)) (length us) size q)))
-    go false q f = let l = inner i (many (list_meaning us)) (length us) size h q in f l (e
-        ∙ ap (λ k. get_or (u ∷ us) k t) (further i (length us) l))

@@ -15,12 +15,6 @@ use env_core::Env;
 use std::alloc::Global;
 use term_core::{Formula, Term};
 
-/// The most nodes that a normal form may have.
-const MOST_NODES: u64 = 65_536;
-
-/// How high a normal form may be.
-const GREATEST_HEIGHT: u64 = 1_024;
-
 /// The normal form of a formula, all definitions put in. It is counted first, and nothing but the result is made. No
 /// index of it may pass 2^64.
 #[tactic(auto, using(crate::proofs::Limits::limits))]
@@ -30,7 +24,7 @@ pub fn normal(alloc: Global, env: &Env, a: &Formula) -> Result<Formula, NormalFa
     ensures { IsNormal (declarations env.now) (formula.meaning a.now) result }
 {
     let size = env.formula_size(a)?;
-    if size.nodes > MOST_NODES || size.height > GREATEST_HEIGHT {
+    if size.passes() {
         return Err(NormalFault::TooLarge(size.nodes, size.height));
     }
     let mut frames = Vec::new(alloc);
@@ -46,7 +40,7 @@ pub fn normal_term(alloc: Global, env: &Env, t: &Term) -> Result<Term, NormalFau
     ensures { IsNormalTerm (declarations env.now) (term.meaning t.now) result }
 {
     let size = env.term_size(t);
-    if size.nodes > MOST_NODES || size.height > GREATEST_HEIGHT {
+    if size.passes() {
         return Err(NormalFault::TooLarge(size.nodes, size.height));
     }
     let mut frames = Vec::new(alloc);

@@ -22,7 +22,7 @@ pub enum Found<'a> {
 }
 
 /// The argument for a variable: the last is for the variable 0.
-#[tactic(auto, using(crate::proofs::Scoped::argument_at))]
+#[tactic(auto, using(env_core::proofs::Filling::argument_at))]
 pub fn argument_of<'a>(ts: &'a [Term], index: u64) -> &'a Term
     requires { index < length ts.now }
     ensures { meaning result.now ≡ argument (list_meaning ts.now) index }

@@ -1,8 +1,8 @@
 -- The body of a definition, checked, measured and built.
 use Rattle.std.proofs.Common.{◌≡◌, ℕ, ◌<◌, ◌^◌, ◌⊎◌, min, List, map, None, Some, Result, Ok, Err, refl, sym, ap, subst, ◌∙◌}
 use Rattle.vern_grammar.specs.Trees.{Name, Expression}
-use Rattle.fol_theory.specs.Syntax.{Term, Formula, is_name}
-use Rattle.env_theory.specs.Declarations.{Parameter, Declaration, term, formula}
+use Rattle.fol_theory.specs.Syntax.{Term, is_name}
+use Rattle.env_theory.specs.Declarations.{Declaration, term, formula}
 use Rattle.base_core.specs.Answers.{and_then}
 use Rattle.elab_theory.specs.Faults.{Fault, wrong_sort}
 use Rattle.elab_theory.specs.Locals.{known}
@@ -10,7 +10,6 @@ use Rattle.elab_theory.specs.Expressions.{span_of, sort_at, of_sort, term_of, fo
 use Rattle.elab_theory.specs.Sentences.{locals_of, defined_by}
 use Rattle.elab_theory.specs.Sizes.{nodes_in, height_in}
 use Rattle.elab_theory.proofs.Results.{ok_is, steps, passed}
-use Rattle.elab_theory.proofs.Formed.{sort_text}
 use Rattle.elab_theory.proofs.Sized.{term_of_nodes, term_of_height}
 use Rattle.term_core.specs.declared.context.Context.TheVariants as context
 use Rattle.term_core.specs.declared.term.Term.{Term as MadeTerm}

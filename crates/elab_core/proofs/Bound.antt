@@ -1,6 +1,5 @@
 -- Parameters that are bound one after another are those of elab_theory.
 use Rattle.std.proofs.Common.{◌≡◌, ℕ, Bool, true, false, ◌||◌, List, [], ◌∷◌, ◌++◌, map, if◌then◌else◌, Result, Ok, Err, refl, sym, ap, ◌∙◌}
-use Rattle.std.specs.List.{list_any}
 use Rattle.std.proofs.lemmas.List.{append_assoc}
 use Rattle.std.proofs.lemmas.List.Folds.{list_any-append}
 use Rattle.vern_grammar.specs.Trees.{Name, Group}
@@ -8,17 +7,16 @@ use Rattle.fol_theory.specs.Syntax.{is_name}
 use Rattle.env_theory.specs.Declarations.{Parameter, Declaration}
 use Rattle.base_core.specs.Answers.{and_then}
 use Rattle.elab_theory.specs.Faults.{Fault, already_declared}
-use Rattle.elab_theory.specs.Locals.{Local, variable, locals_in, known}
+use Rattle.elab_theory.specs.Locals.{Local, locals_in, known}
 use Rattle.elab_theory.specs.Expressions.{sort_at}
 use Rattle.elab_theory.specs.Sentences.{is_among, new_names, names_of, with_sort, locals_of, parameters_of}
 use Rattle.elab_theory.proofs.Formed.{sort_text}
 use Rattle.env_core.specs.declared.declaration.Parameter.{Parameter as Made}
 use Rattle.env_core.specs.Meaning.{parameter}
-use Rattle.term_core.specs.Context.{slots}
 use Rattle.term_core.specs.declared.context.Context.TheVariants as context
 use Rattle.term_core.proofs.Layers.{slots_Empty}
 use Rattle.elab_core.specs.Scopes.{binder_local, binders_onto, locals}
-use Rattle.elab_core.specs.Parameters.{with_parameter, names_added, group_added, groups_added}
+use Rattle.elab_core.specs.Parameters.{with_parameter, names_added, groups_added}
 
 -- ---- what parameters are to names
 

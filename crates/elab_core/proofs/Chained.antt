@@ -1,30 +1,5 @@
 -- Chains of arrows: their sorts, or the three passes in a row.
-use Rattle.std.proofs.Common.{
-  ◌≡◌,
-  ℕ,
-  ◌+◌,
-  ◌<◌,
-  ◌^◌,
-  ◌⊎◌,
-  inl,
-  inr,
-  min,
-  max,
-  List,
-  [],
-  ◌∷◌,
-  ◌++◌,
-  map,
-  Result,
-  Ok,
-  Err,
-  refl,
-  sym,
-  ap,
-  subst,
-  ◌∙◌,
-  arith,
-}
+use Rattle.std.proofs.Common.{◌≡◌, ℕ, ◌<◌, ◌^◌, ◌⊎◌, inl, inr, min, List, [], ◌∷◌, ◌++◌, map, Result, Ok, Err, refl, sym, ap, subst, ◌∙◌, arith}
 use Rattle.std.proofs.lemmas.List.{append_assoc}
 use Rattle.vern_lex.specs.declared.span.Span.{Span}
 use Rattle.vern_grammar.specs.Trees.{Name, Shape, set, prop, arrow, plain, application, expressions}
@@ -39,7 +14,6 @@ use Rattle.elab_theory.specs.Faults.{Fault, wrong_kind}
 use Rattle.elab_theory.specs.Locals.{known}
 use Rattle.elab_theory.specs.Expressions.{sort_at, formula_of}
 use Rattle.elab_theory.specs.Sentences.{Last, a_predicate, a_function, a_formula, sort_part, sorts_before, chain_of, shape_by}
-use Rattle.elab_theory.specs.Sizes.{nodes_in, height_in}
 use Rattle.elab_theory.proofs.Results.{ok_is, never, steps}
 use Rattle.elab_theory.proofs.Sized.{formula_of_nodes, formula_of_height}
 use Rattle.term_core.specs.declared.formula.Formula.{Formula as Made}

@@ -1,5 +1,5 @@
 -- Checking is typing with the term or the formula left out.
-use Rattle.std.proofs.Common.{◌≡◌, ℕ, Bool, true, false, List, [], ◌∷◌, length, if◌then◌else◌, ◌==◌, Result, Ok, Err, refl, sym, ap, ◌∙◌}
+use Rattle.std.proofs.Common.{◌≡◌, ℕ, Bool, true, false, List, [], ◌∷◌, length, if◌then◌else◌, ◌==◌, Result, Ok, Err, refl, ap, ◌∙◌}
 use Rattle.vern_lex.specs.declared.span.Span.{Span}
 use Rattle.vern_grammar.specs.Trees.{
   Operator,
@@ -20,41 +20,14 @@ use Rattle.vern_grammar.specs.Trees.{
   Expressions,
 }
 use Rattle.vern_grammar.specs.Trees as tree
-use Rattle.fol_theory.specs.Syntax.{Term, var, app, Terms, nil, cons, Formula, truth, falsity, pred, equal, both, either, implies, all, ex}
+use Rattle.fol_theory.specs.Syntax.{Term, var, app, Terms, cons, Formula, falsity, pred, equal, both, either, implies}
 use Rattle.fol_theory.specs.Syntax.{is_name}
 use Rattle.env_theory.specs.Declarations.{Declaration, sort, function, predicate, stated, term, formula, sorts_of}
 use Rattle.base_core.specs.Answers.{and_then}
-use Rattle.elab_theory.specs.Faults.{Fault, unknown_name, wrong_kind, wrong_sort, wrong_arity}
-use Rattle.elab_theory.specs.Locals.{Local, variable, Known, bound, assumed, declared, unknown, known}
-use Rattle.elab_theory.specs.Expressions.{
-  span_of,
-  how_many,
-  sort_at,
-  arguments_at,
-  term_at,
-  formula_at,
-  of_sort,
-  term_of,
-  terms_of,
-  equation_of,
-  over_groups,
-  formula_of,
-  under_groups,
-}
-use Rattle.elab_core.specs.Checked.{
-  Head,
-  variable_head,
-  function_head,
-  counted,
-  term_head,
-  formula_head,
-  fits,
-  headed,
-  sort_of,
-  arguments_fit,
-  sides_fit,
-  fits_formula,
-}
+use Rattle.elab_theory.specs.Faults.{Fault, wrong_sort, wrong_arity}
+use Rattle.elab_theory.specs.Locals.{Local, Known, bound, assumed, declared, unknown, known}
+use Rattle.elab_theory.specs.Expressions.{span_of, how_many, arguments_at, term_at, formula_at, of_sort, term_of, terms_of, equation_of, over_groups, formula_of, under_groups}
+use Rattle.elab_core.specs.Checked.{variable_head, function_head, counted, term_head, formula_head, fits, headed, sort_of, arguments_fit, sides_fit, fits_formula}
 
 -- a value left out
 abbrev pub nothing : {A : Type 0} → Result A Fault → Result (Unit {0}) Fault

@@ -1,58 +1,15 @@
--- Looking names up, and the sorts of parameters.
-use Rattle.std.proofs.Common.{
-  ◌≡◌,
-  ℕ,
-  zero,
-  suc,
-  ◌+◌,
-  ◌-◌,
-  ◌<◌,
-  ◌≤◌,
-  Bool,
-  true,
-  false,
-  List,
-  [],
-  ◌∷◌,
-  ◌++◌,
-  length,
-  take,
-  drop,
-  get_or,
-  map,
-  refl,
-  sym,
-  ap,
-  ◌∙◌,
-  subst,
-  if◌then◌else◌,
-  arith,
-}
+-- Looking names up.
+use Rattle.std.proofs.Common.{◌≡◌, ℕ, suc, ◌+◌, ◌-◌, ◌<◌, ◌≤◌, true, false, List, [], ◌∷◌, ◌++◌, length, take, drop, get_or, map, refl, sym, ap, ◌∙◌, subst, if◌then◌else◌, arith}
 use Rattle.std.proofs.Math.Seq.{take-suc, drop-cons}
 use Rattle.vern_parse.specs.declared.raw.RawName.{RawName}
 use Rattle.vern_parse.specs.Meaning.{name}
 use Rattle.elab_theory.specs.Expressions.{under_names}
 use Rattle.std.proofs.lemmas.List.{take-append-le, length-append}
 use Rattle.fol_theory.specs.Syntax.{is_name}
-use Rattle.env_theory.specs.Declarations.{Declaration, sorts_of}
+use Rattle.env_theory.specs.Declarations.{Declaration}
 use Rattle.env_core.specs.declared.declaration.Parameter.{Parameter}
-use Rattle.env_core.specs.Meaning.{parameter}
 use Rattle.elab_theory.specs.Locals.{Local, variable, hypothesis, Known, bound, assumed, declared, unknown, known, farther}
 use Rattle.elab_core.specs.Scopes.{binder_local, binders_onto, past}
-
--- ---- sorts of parameters
-
-pub many_sorts : (ps : List Parameter) → length (sorts_of (map parameter ps)) ≡ length ps
-many_sorts [] = refl
-many_sorts (p ∷ ps) = ap suc (many_sorts ps)
-
-pub sort_at_index : (ps : List Parameter) (i : ℕ) (p : Parameter) → i < length ps → p ≡ get_or ps i p
-    → get_or (sorts_of (map parameter ps)) i [] ≡ p.sort
-sort_at_index [] i p h e = absurd (omega arith)
-sort_at_index (q ∷ ps) zero p h e = ap (λ z. z.sort) (sym e)
-sort_at_index (q ∷ ps) (suc i) p h e = sort_at_index ps i p (omega arith) e
-
-pub ruleset counting = (many_sorts, sort_at_index)
 
 -- ---- the front of a list and its last
 

@@ -1,5 +1,5 @@
 -- What is declared and stated, behind the test that its name is new.
-use Rattle.std.proofs.Common.{◌≡◌, ℕ, List, [], ◌∷◌, Result, Ok, Err, refl, sym, ap, subst, ◌∙◌}
+use Rattle.std.proofs.Common.{◌≡◌, ℕ, List, [], Result, Err, sym, subst}
 use Rattle.vern_grammar.specs.Trees.{Group}
 use Rattle.fol_theory.specs.Syntax.{Formula}
 use Rattle.env_theory.specs.Declarations.{Declaration, Parameter}

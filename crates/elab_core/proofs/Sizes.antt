@@ -1,5 +1,5 @@
 -- How large each variant of an expression is.
-use Rattle.std.proofs.Common.{◌≡◌, ℕ, ◌+◌, Bool, max, map, ap}
+use Rattle.std.proofs.Common.{◌≡◌, ◌+◌, Bool, max, map, ap}
 use Rattle.std.specs.Prelude.{Vec, Box}
 use Rattle.std.specs.declared.alloc.Global.{Global}
 use Rattle.vern_lex.specs.declared.span.Span.{Span}

@@ -1,9 +1,9 @@
 -- What the variants of an expression stand for, and what typing asks of each.
-use Rattle.std.proofs.Common.{◌≡◌, ℕ, suc, List, [], ◌∷◌, length, map, refl, sym, ap, ◌∙◌, Result}
+use Rattle.std.proofs.Common.{◌≡◌, suc, List, [], ◌∷◌, length, map, refl, sym, ap, ◌∙◌}
 use Rattle.std.specs.Prelude.{Vec}
 use Rattle.std.specs.declared.alloc.Global.{Global}
 use Rattle.vern_lex.specs.declared.span.Span.{Span}
-use Rattle.vern_grammar.specs.Trees.{Name, Expressions, expressions}
+use Rattle.vern_grammar.specs.Trees.{expressions}
 use Rattle.vern_parse.specs.declared.raw.RawName.{RawName}
 use Rattle.vern_parse.specs.declared.raw.RawExpr.{RawExpr}
 use Rattle.vern_parse.specs.declared.raw.RawExpr.TheVariants as made
@@ -11,10 +11,9 @@ use Rattle.vern_parse.specs.Meaning.{name, expression}
 use Rattle.vern_parse.proofs.Trees.{constants, applications, governed, expression_App}
 use Rattle.env_theory.specs.Declarations.{Declaration}
 use Rattle.base_core.specs.Answers.{and_then}
-use Rattle.elab_theory.specs.Faults.{Fault}
 use Rattle.elab_theory.specs.Locals.{Local, known}
 use Rattle.elab_theory.specs.Expressions.{how_many}
-use Rattle.elab_core.specs.Checked.{Head, term_head, formula_head, headed, sort_of, arguments_fit, fits_formula}
+use Rattle.elab_core.specs.Checked.{term_head, formula_head, headed, sort_of, arguments_fit, fits_formula}
 
 pub ruleset trees = (constants, applications, governed)
 

@@ -1,14 +1,13 @@
 -- The three passes in a row.
-use Rattle.std.proofs.Common.{◌≡◌, ℕ, ◌<◌, ◌^◌, ◌⊎◌, inl, inr, min, List, Result, Ok, Err, refl, sym, ap, subst, ◌∙◌, arith}
+use Rattle.std.proofs.Common.{◌≡◌, ℕ, ◌<◌, ◌^◌, ◌⊎◌, min, List, Result, Ok, Err, refl, sym, ap, subst, ◌∙◌}
 use Rattle.vern_grammar.specs.Trees.{Expression}
-use Rattle.fol_theory.specs.Syntax.{Term, Formula}
+use Rattle.fol_theory.specs.Syntax.{Term}
 use Rattle.env_theory.specs.Declarations.{Declaration}
-use Rattle.base_core.specs.Answers.{and_then}
 use Rattle.elab_theory.specs.Faults.{Fault}
 use Rattle.elab_theory.specs.Locals.{Local}
 use Rattle.elab_theory.specs.Expressions.{term_of, formula_of}
 use Rattle.elab_theory.specs.Sizes.{nodes_in, height_in}
-use Rattle.elab_theory.proofs.Results.{ok_is, never, steps}
+use Rattle.elab_theory.proofs.Results.{ok_is, never}
 use Rattle.elab_theory.proofs.Sized.{formula_of_nodes, formula_of_height}
 use Rattle.term_core.specs.declared.formula.Formula.{Formula as Made}
 use Rattle.term_core.specs.Formula.{meaning}

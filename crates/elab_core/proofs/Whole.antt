@@ -1,26 +1,5 @@
 -- Where typing has a value, it is what is built.
-use Rattle.std.proofs.Common.{
-  ◌≡◌,
-  ℕ,
-  suc,
-  Bool,
-  true,
-  false,
-  List,
-  [],
-  ◌∷◌,
-  length,
-  if◌then◌else◌,
-  ◌==◌,
-  Result,
-  Ok,
-  Err,
-  refl,
-  sym,
-  ap,
-  ◌∙◌,
-  arith,
-}
+use Rattle.std.proofs.Common.{◌≡◌, ℕ, true, false, List, [], ◌∷◌, length, ◌==◌, Result, Ok, ap, ◌∙◌, arith}
 use Rattle.vern_lex.specs.declared.span.Span.{Span}
 use Rattle.vern_grammar.specs.Trees.{
   Operator,
@@ -41,12 +20,12 @@ use Rattle.vern_grammar.specs.Trees.{
   Expressions,
 }
 use Rattle.vern_grammar.specs.Trees as tree
-use Rattle.fol_theory.specs.Syntax.{Term, var, app, Terms, nil, cons, Formula, truth, falsity, pred, equal, both, either, implies, all, ex}
+use Rattle.fol_theory.specs.Syntax.{Term, var, app, Terms, nil, cons, Formula, truth, falsity, pred, equal, both, either, implies}
 use Rattle.fol_theory.specs.Syntax.{is_name}
 use Rattle.env_theory.specs.Declarations.{Declaration, sort, function, predicate, stated, term, formula, sorts_of}
 use Rattle.base_core.specs.Answers.{and_then}
 use Rattle.elab_theory.specs.Faults.{Fault, unknown_name, wrong_kind, wrong_sort, wrong_arity}
-use Rattle.elab_theory.specs.Locals.{Local, variable, Known, bound, assumed, declared, unknown, known}
+use Rattle.elab_theory.specs.Locals.{Local, Known, bound, assumed, declared, unknown, known}
 use Rattle.elab_theory.specs.Expressions.{
   span_of,
   how_many,
@@ -65,17 +44,7 @@ use Rattle.elab_theory.specs.Expressions.{
 }
 use Rattle.elab_theory.proofs.Results.{ok_is, never, steps, passed}
 use Rattle.std.proofs.lemmas.Bool.Decides.{nat_tests}
-use Rattle.elab_core.specs.Built.{
-  variable_in,
-  headed_by,
-  head_sort,
-  term_built,
-  terms_built,
-  sort_built,
-  under_all,
-  operated,
-  formula_built,
-}
+use Rattle.elab_core.specs.Built.{variable_in, headed_by, head_sort, term_built, terms_built, sort_built, under_all, formula_built}
 
 same_number : (m n : ℕ) → (m == n) ≡ true → m ≡ n
 same_number m n h = grind (arith, nat_tests)

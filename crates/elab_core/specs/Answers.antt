@@ -1,5 +1,5 @@
 -- What a call that measures what it makes answers against the wanted formula or first fault.
-use Rattle.std.specs.Prelude.{◌≡◌, ℕ, ◌<◌, ◌≤◌, ◌^◌, ◌⊎◌, min, Result, Ok, Err}
+use Rattle.std.specs.Prelude.{◌≡◌, ℕ, ◌<◌, ◌^◌, ◌⊎◌, min, Result, Ok, Err}
 use Rattle.fol_theory.specs.Syntax.{Formula, Term}
 use Rattle.fol_theory.specs.Measures.{nodes, height, term_nodes, term_height}
 use Rattle.env_theory.specs.Declarations.{Declaration, sort, function, predicate, stated, term, formula}

@@ -1,6 +1,5 @@
 -- What is built of an expression that has no fault; of others, anything.
-use Rattle.std.specs.Prelude.{◌≡◌, ℕ, suc, Bool, List, [], ◌∷◌, Option, Some, None}
-use Rattle.vern_lex.specs.declared.span.Span.{Span}
+use Rattle.std.specs.Prelude.{ℕ, List, [], ◌∷◌, Option, Some, None}
 use Rattle.vern_grammar.specs.Trees.{
   Operator,
   implication,
@@ -20,10 +19,10 @@ use Rattle.vern_grammar.specs.Trees.{
   Expressions,
 }
 use Rattle.vern_grammar.specs.Trees as tree
-use Rattle.std.specs.Prelude.{true, false, if◌then◌else◌}
-use Rattle.fol_theory.specs.Syntax.{Term, var, app, Terms, nil, cons, Formula, truth, falsity, pred, equal, both, either, implies, all, ex}
+use Rattle.std.specs.Prelude.{if◌then◌else◌}
+use Rattle.fol_theory.specs.Syntax.{Term, var, app, Terms, nil, cons, Formula, truth, falsity, pred, equal, both, either, implies}
 use Rattle.env_theory.specs.Declarations.{Declaration, sort, function, predicate, stated, term, formula}
-use Rattle.elab_theory.specs.Locals.{Local, variable, Known, bound, assumed, declared, unknown, known}
+use Rattle.elab_theory.specs.Locals.{Local, Known, bound, assumed, declared, unknown, known}
 use Rattle.elab_theory.specs.Expressions.{over_groups, under_names}
 
 -- the variable that a name is, if it is one

@@ -1,5 +1,5 @@
 -- The three passes over a chain of arrows that is a formula, and the sorts of one that isn't.
-use Rattle.std.specs.Prelude.{ℕ, suc, ◌+◌, max, List, [], ◌∷◌, ◌++◌, Result, Ok, Err}
+use Rattle.std.specs.Prelude.{ℕ, ◌+◌, max, List, [], ◌∷◌, ◌++◌, Result, Ok, Err}
 use Rattle.vern_grammar.specs.Trees.{Shape, set, prop, arrow, plain}
 use Rattle.fol_theory.specs.Syntax.{Formula, truth, implies}
 use Rattle.env_theory.specs.Declarations.{Declaration}

@@ -1,5 +1,5 @@
 -- Typing with the formula left out: the sort, or nothing, or the first fault.
-use Rattle.std.specs.Prelude.{ℕ, Bool, true, false, List, [], ◌∷◌, length, if◌then◌else◌, ◌==◌, Result, Ok, Err}
+use Rattle.std.specs.Prelude.{ℕ, List, [], ◌∷◌, length, if◌then◌else◌, ◌==◌, Result, Ok, Err}
 use Rattle.vern_lex.specs.declared.span.Span.{Span}
 use Rattle.vern_grammar.specs.Trees.{
   Operator,
@@ -24,7 +24,7 @@ use Rattle.fol_theory.specs.Syntax.{is_name}
 use Rattle.env_theory.specs.Declarations.{Declaration, sort, function, predicate, stated, term, formula, sorts_of}
 use Rattle.base_core.specs.Answers.{and_then}
 use Rattle.elab_theory.specs.Faults.{Fault, unknown_name, wrong_kind, wrong_sort, wrong_arity}
-use Rattle.elab_theory.specs.Locals.{Local, variable, Known, bound, assumed, declared, unknown, known}
+use Rattle.elab_theory.specs.Locals.{Local, Known, bound, assumed, declared, unknown, known}
 use Rattle.elab_theory.specs.Expressions.{span_of, how_many, under_groups}
 
 -- what stands at the head of a term: a variable with its sort, or a function with the sorts of its arguments and of its value

@@ -1,7 +1,7 @@
 -- What the code's heads stand for.
 use Rattle.elab_core.specs.declared.scope.Head.{Head}
 use Rattle.elab_core.specs.declared.scope.Head.TheVariants.{Variable, Function}
-use Rattle.elab_core.specs.Scopes.{sorts_as}
+use Rattle.env_core.specs.Sorts.{sorts_as}
 use Rattle.elab_core.specs.Checked.{Head as Meaning, variable_head, function_head}
 
 -- the head that one stands for

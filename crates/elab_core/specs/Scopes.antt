@@ -1,15 +1,12 @@
 -- What the names of a scope are: binders, the innermost last, over a context.
-use Rattle.std.specs.Prelude.{ℕ, ◌+◌, List, [], ◌∷◌, map}
+use Rattle.std.specs.Prelude.{ℕ, ◌+◌, List, [], ◌∷◌}
 use Rattle.term_core.specs.declared.context.Context.{Context}
 use Rattle.term_core.specs.Context.{slots}
-use Rattle.env_theory.specs.Declarations.{sorts_of}
 use Rattle.env_core.specs.declared.declaration.Parameter.{Parameter}
-use Rattle.env_core.specs.Meaning.{declaration, parameter}
+use Rattle.env_core.specs.Meaning.{declaration}
 use Rattle.elab_theory.specs.Locals.{Local, variable, locals_in, Known as Meaning, bound, assumed, declared, unknown}
 use Rattle.elab_core.specs.declared.scope.Known.{Known}
 use Rattle.elab_core.specs.declared.scope.Known.TheVariants.{Bound, Assumed, Declared, Unknown}
-use Rattle.elab_core.specs.declared.scope.Sorts.{Sorts}
-use Rattle.elab_core.specs.declared.scope.Sorts.TheVariants.{Names, Params}
 
 -- a binder as typing sees it
 abbrev pub binder_local : Parameter → Local
@@ -37,8 +34,3 @@ past n (bound i s) = bound (i + n) s
 past n assumed = assumed
 past n (declared d) = declared d
 past n unknown = unknown
-
--- the sorts of arguments
-abbrev pub sorts_as : Sorts → List (List ℕ)
-sorts_as (Names ns) = ns.now
-sorts_as (Params ps) = sorts_of (map parameter ps.now)

@@ -18,13 +18,13 @@ pub enum ElabFault {
     #[error("wrong sort")]
     WrongSort(Span),
     /// A name with another number of arguments than it takes.
-    #[error("wrong number of arguments")]
+    #[error("wrong arity")]
     WrongArity(Span),
     /// The name that is declared here has been declared before, or stands twice among the parameters.
     #[error("already declared")]
     AlreadyDeclared(Span),
     /// The evidence isn't of the form that is asked.
-    #[error("not of form")]
+    #[error("not of this form")]
     NotOfForm,
     /// What is typed would have so many nodes and be so high, one of them too much; 2^32 stands for that and more.
     #[error("too large: {0} nodes, height {1}")]

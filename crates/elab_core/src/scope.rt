@@ -1,20 +1,21 @@
 //! What names stand for.
-ghost use Rattle.std.specs.Prelude.{◌≡◌, ◌<◌, ◌^◌, length, get_or, map, [], IfOk};
+ghost use Rattle.std.specs.Prelude.{◌≡◌, map, IfOk};
 ghost use Rattle.vern_parse.specs.Meaning.{name};
 ghost use Rattle.env_core.specs.Meaning.{declarations, declaration, parameter};
+ghost use Rattle.env_core.specs.Sorts.{sorts_as};
 ghost use Rattle.elab_theory.specs.Locals.{known as known_in, declared, declared_or_not, locals_in};
 ghost use Rattle.elab_theory.specs.Expressions.{sort_at};
 ghost use Rattle.elab_theory.specs.Sentences.{locals_of};
 ghost use Rattle.env_theory.specs.Declarations.{find};
 ghost use Rattle.term_core.specs.Context.{slots};
-ghost use Rattle.elab_core.specs.Scopes.{known_as, locals, past, sorts_as};
+ghost use Rattle.elab_core.specs.Scopes.{known_as, locals, past};
 ghost use Rattle.elab_core.specs.Faults.{Gives};
 ghost use Rattle.elab_core.specs.Checked.{formula_head, term_head};
 ghost use Rattle.elab_core.specs.Heads.{head_as};
 
 use crate::ElabFault;
 use base_core::NoMemory;
-use env_core::{Decl, Env, Parameter};
+use env_core::{Decl, Env, Parameter, Sorts};
 use term_core::{Context, Name, Slot};
 use vern_parse::RawName;
 
@@ -25,36 +26,6 @@ pub enum Known<'a> {
     Assumed,
     Declared(&'a Decl),
     Unknown,
-}
-
-/// The sorts of arguments.
-#[derive(Clone, Copy)]
-pub enum Sorts<'a> {
-    Names(&'a [Name]),
-    Params(&'a [Parameter]),
-}
-
-impl<'a> Sorts<'a> {
-    #[tactic(auto, using(crate::proofs::Scoped::counting))]
-    pub fn len(self) -> usize
-        ensures { result ≡ length (sorts_as self.entry) }
-    {
-        match self {
-            Sorts::Names(names) => names.len(),
-            Sorts::Params(params) => params.len(),
-        }
-    }
-
-    #[tactic(auto, using(crate::proofs::Scoped::counting))]
-    pub fn at(self, i: usize) -> &'a Name
-        requires { i < length (sorts_as self) }
-        ensures { result.now ≡ get_or (sorts_as self.entry) i [] }
-    {
-        match self {
-            Sorts::Names(names) => &names[i],
-            Sorts::Params(params) => &params[i].sort,
-        }
-    }
 }
 
 /// The name that stands in a sentence, which shares the bytes.
@@ -179,7 +150,7 @@ pub fn head_of_term<'a>(known: Known<'a>, x: &RawName, count: usize) -> Result<H
     }
 }
 
-#[tactic(auto, using(crate::proofs::Scoped::counting))]
+#[tactic(auto, using(env_core::proofs::Sorted::counting))]
 fn declared_head<'a>(d: &'a Decl, x: &RawName, count: usize) -> Result<Head<'a>, ElabFault>
     ensures { Gives head_as result (term_head (declared (declaration d.now)) (name x.now) count) }
 {
@@ -217,7 +188,7 @@ pub fn head_of_formula<'a>(
     }
 }
 
-#[tactic(auto, using(crate::proofs::Scoped::counting))]
+#[tactic(auto, using(env_core::proofs::Sorted::counting))]
 fn declared_predicate<'a>(d: &'a Decl, x: &RawName, count: usize) -> Result<Sorts<'a>, ElabFault>
     ensures { Gives sorts_as result (formula_head (declared (declaration d.now)) (name x.now) count) }
 {

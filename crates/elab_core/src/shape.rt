@@ -14,9 +14,9 @@ use crate::ElabFault;
 use crate::build::{build_formula, imp};
 use crate::check::{check_formula, span_of_tree};
 use crate::scope::{expect_sort_under, name_of};
-use crate::size::{Size, size_of_tree};
+use crate::size::size_of_tree;
 use base_core::NoMemory;
-use env_core::{Decl, Env};
+use env_core::{Decl, Env, Tally};
 use std::alloc::Global;
 use term_core::{Context, Formula, Name, Names};
 use vern_lex::Span;
@@ -101,12 +101,12 @@ fn check_chain(alloc: Global, env: &Env, y: &Shape) -> Result<(), ElabFault>
 
 /// How large it is.
 #[tactic(auto, using(crate::proofs::Chained::shapes))]
-fn size_of_chain(y: &Shape) -> Size
+fn size_of_chain(y: &Shape) -> Tally
     ensures nodes { result.nodes ≡ min (chain_nodes (shape y.now)) (2 ^ 32) }
     ensures height { result.height ≡ min (chain_height (shape y.now)) (2 ^ 32) }
 {
     match y {
-        Shape::Set(_) | Shape::Prop(_) => Size::NONE,
+        Shape::Set(_) | Shape::Prop(_) => Tally::NONE,
         Shape::Arrow(a, rest) => size_of_tree(a).beside(size_of_chain(rest)).below(1),
         Shape::Plain(a) => size_of_tree(a),
     }
@@ -147,9 +147,7 @@ pub fn declare(alloc: Global, env: &Env, name: Name, y: &Shape) -> Result<Decl, 
 {
     match y {
         Shape::Set(_) => Ok(Decl::Sort { name }),
-        Shape::Prop(_) => declare_chain(alloc, env, name, y),
-        Shape::Arrow(_, _) => declare_chain(alloc, env, name, y),
-        Shape::Plain(_) => declare_chain(alloc, env, name, y),
+        Shape::Prop(_) | Shape::Arrow(_, _) | Shape::Plain(_) => declare_chain(alloc, env, name, y),
     }
 }
 

@@ -4,9 +4,9 @@ use base_core::NoMemory;
 use env_core::{Decl, Env};
 use std::alloc::Global;
 use std::test::Fail;
-use term_core::Name;
+use term_core::{Context, Name, Slot, Term};
 use vern_lex::{Span, tokens};
-use vern_parse::{Raw, parse};
+use vern_parse::{Raw, RawExpr, parse};
 
 /// What is answered of a lemma: in words, with where the fault is, or with the two numbers of the size.
 type Told = (&'static str, u64, u64);
@@ -113,6 +113,80 @@ fn sizes_are_told_before_anything_is_built(rt: HostRuntime) -> Result<(), Fail> 
     assert_eq!(rt;
         told(alloc, &env, &nested(alloc, 128)?)?,
         ("too large", 1 << 32, 257)
+    );
+    Ok(())
+}
+
+/// The context of a variable `x` of sort `T` and then a variable `y` of sort `U`.
+fn variables(alloc: Global) -> Result<Context, NoMemory> {
+    let mut context = Context::Empty;
+    for (name, sort) in [(b"x".as_slice(), b"T".as_slice()), (b"y", b"U")] {
+        context = context.push(
+            alloc,
+            Slot::Var {
+                name: Name::from_slice(alloc, name)?,
+                sort: Name::from_slice(alloc, sort)?,
+            },
+        )?;
+    }
+    Ok(context)
+}
+
+/// What is told of a side of an equation: the first letter of its sort and its variable, or 0 and where its fault is.
+type Side = (u8, u64);
+
+fn variable_of(t: &Term) -> u64 {
+    match t {
+        Term::Var(i) => *i,
+        Term::App(_, _) => 1_000,
+    }
+}
+
+fn told_side(alloc: Global, env: &Env, side: &RawExpr) -> Result<Side, NoMemory> {
+    let context = variables(alloc)?;
+    match term(alloc, env, &context, side) {
+        Ok((t, sort)) => {
+            let is_first = sort == Name::from_slice(alloc, b"T")?;
+            Ok((if is_first { b'T' } else { b'U' }, variable_of(&t)))
+        }
+        Err(fault) => match fault {
+            ElabFault::UnknownName(span) | ElabFault::WrongKind(span) => Ok((0, span.from)),
+            ElabFault::NoMemory => Err(NoMemory),
+            _ => Ok((0, 2_000)),
+        },
+    }
+}
+
+fn told_sides(alloc: Global, env: &Env, raw: &RawExpr) -> Result<(Side, Side), NoMemory> {
+    match raw {
+        RawExpr::Binary(_, a, b, _) => Ok((told_side(alloc, env, a)?, told_side(alloc, env, b)?)),
+        _ => Ok(((0, 3_000), (0, 3_000))),
+    }
+}
+
+fn told_equation(alloc: Global, env: &Env, text: &[u8]) -> Result<(Side, Side), NoMemory> {
+    let read = tokens(alloc, text)?;
+    match parse(alloc, &read, text) {
+        Ok(Raw::Begin(_x, raw)) => told_sides(alloc, env, &raw),
+        _ => Ok(((0, 4_000), (0, 4_000))),
+    }
+}
+
+#[test]
+fn terms_are_told_with_their_sorts(rt: HostRuntime) -> Result<(), Fail> {
+    let alloc = rt.alloc();
+    let env = sorts(alloc)?;
+    assert_eq!(rt;
+        told_equation(alloc, &env, b"Lemma q : x = y.")?,
+        ((b'T', 1), (b'U', 0))
+    );
+    assert_eq!(rt;
+        told_equation(alloc, &env, b"Lemma q : y = z.")?,
+        ((b'U', 0), (0, 14))
+    );
+    assert_eq!(rt;
+        told_equation(alloc, &env, b"Lemma q : T = x.")?,
+        ((0, 10), (b'T', 1))
     );
     Ok(())
 }

@@ -14,3 +14,4 @@ pub mod Told
 pub mod Summing
 pub mod Results
 pub mod Filling
+pub mod Sorted

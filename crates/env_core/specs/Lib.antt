@@ -4,3 +4,4 @@ pub mod Rows
 pub mod Weights
 pub mod Summaries
 pub mod Filled
+pub mod Sorts

@@ -14,6 +14,7 @@ mod env;
 mod head;
 mod layer;
 mod sizes;
+mod sorts;
 mod summary;
 mod tally;
 #[cfg(test)]
@@ -23,4 +24,5 @@ mod uses;
 pub use declaration::{Decl, Parameter, Params};
 pub use entry::Definition;
 pub use env::Env;
+pub use sorts::Sorts;
 pub use tally::Tally;

@@ -8,7 +8,7 @@ ghost use Rattle.env_core.specs.Weights.{weights_of};
 
 use crate::env::Env;
 use crate::summary::Summary;
-use crate::tally::{NONE, ONCE, Tally};
+use crate::tally::Tally;
 use base_core::NoMemory;
 use term_core::{Formula, Term};
 
@@ -26,8 +26,8 @@ impl Weights {
         ensures height { result.height ≡ weights_of self i }
     {
         match self {
-            Weights::Each => ONCE,
-            Weights::Below(b) => { if i < b { ONCE } else { NONE } }
+            Weights::Each => Tally::ONE,
+            Weights::Below(b) => { if i < b { Tally::ONE } else { Tally::NONE } }
         }
     }
 
@@ -52,7 +52,7 @@ pub fn uses_of(uses: &[Tally], variable: usize) -> Tally
     if variable < uses.len() {
         uses[variable]
     } else {
-        NONE
+        Tally::NONE
     }
 }
 
@@ -80,7 +80,7 @@ fn head_tally(env: &Env, weights: Weights, summary: Option<&Summary>, ts: &[Term
         (λ u. spread by_height (height_rows env.now) 1 (weights_of weights) u (list_meaning ts.now))) (2 ^ 32) }
 {
     match summary {
-        None => terms_tally(env, weights, ts).one_more(),
+        None => terms_tally(env, weights, ts).below(1),
         Some(s) => s
             .own
             .beside(spread_tally(env, weights, s.uses.as_slice(), ts)),
@@ -94,7 +94,7 @@ fn terms_tally(env: &Env, weights: Weights, ts: &[Term]) -> Tally
     ensures height { result.height
         ≡ min (count_terms by_height (height_rows env.now) 1 (weights_of weights) (list_meaning ts.now)) (2 ^ 32) }
 {
-    let mut all = NONE;
+    let mut all = Tally::NONE;
     for t in ts {
         all = all.beside(term_tally(env, weights, t));
     }
@@ -109,7 +109,7 @@ fn spread_tally(env: &Env, weights: Weights, uses: &[Tally], ts: &[Term]) -> Tal
     ensures height { result.height
         ≡ min (spread by_height (height_rows env.now) 1 (weights_of weights) (height_at uses.now) (list_meaning ts.now)) (2 ^ 32) }
 {
-    let mut all = NONE;
+    let mut all = Tally::NONE;
     let mut left = ts.len();
     for t in ts {
         left -= 1;
@@ -127,29 +127,29 @@ pub fn formula_tally(env: &Env, weights: Weights, a: &Formula) -> Result<Tally, 
         ≡ min (count by_height (height_table env.now) 1 (weights_of weights) (formula.meaning a.now)) (2 ^ 32)) }
 {
     match a {
-        Formula::True | Formula::False => Ok(ONCE),
+        Formula::True | Formula::False => Ok(Tally::ONE),
         Formula::Pred(p, ts) => Ok(head_tally(env, weights, env.predicate(p), ts.as_slice())),
         Formula::Eq(_, t, u) => Ok(
             term_tally(env, weights, t)
                 .beside(term_tally(env, weights, u))
-                .one_more(),
+                .below(1),
         ),
         Formula::And(a, b) => Ok(
             formula_tally(env, weights, a)?
                 .beside(formula_tally(env, weights, b)?)
-                .one_more(),
+                .below(1),
         ),
         Formula::Or(a, b) => Ok(
             formula_tally(env, weights, a)?
                 .beside(formula_tally(env, weights, b)?)
-                .one_more(),
+                .below(1),
         ),
         Formula::Imp(a, b) => Ok(
             formula_tally(env, weights, a)?
                 .beside(formula_tally(env, weights, b)?)
-                .one_more(),
+                .below(1),
         ),
-        Formula::All(_, _, a) => Ok(formula_tally(env, weights.bound()?, a)?.one_more()),
-        Formula::Ex(_, _, a) => Ok(formula_tally(env, weights.bound()?, a)?.one_more()),
+        Formula::All(_, _, a) => Ok(formula_tally(env, weights.bound()?, a)?.below(1)),
+        Formula::Ex(_, _, a) => Ok(formula_tally(env, weights.bound()?, a)?.below(1)),
     }
 }

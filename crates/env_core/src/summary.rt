@@ -11,7 +11,7 @@ ghost use Rattle.env_core.specs.Summaries.{IsTermSummary, IsFormulaSummary, Summ
 use crate::declaration::Decl;
 use crate::env::Env;
 use crate::sizes::{Weights, formula_tally, term_tally};
-use crate::tally::{NONE, ONCE, Tally};
+use crate::tally::Tally;
 use crate::uses::{add_formula_uses, add_uses, no_uses};
 use base_core::NoMemory;
 use std::alloc::Global;
@@ -36,7 +36,7 @@ pub fn summary_of(alloc: Global, env: &Env, decl: &Decl) -> Result<Summary, NoMe
         Decl::DefFun { params, body, .. } => term_summary(alloc, env, params.len(), body),
         Decl::DefPred { params, body, .. } => formula_summary(alloc, env, params.len(), body),
         _ => Ok(Summary {
-            own: NONE,
+            own: Tally::NONE,
             uses: Vec::new(alloc),
             projects: None,
         }),
@@ -68,7 +68,7 @@ fn term_uses(alloc: Global, env: &Env, params: usize, body: &Term) -> Result<Vec
         → min (height_at v.items k) (2 ^ 32) ≡ min (count_term by_height (height_rows env.now) 0 (only k) (meaning body.now)) (2 ^ 32)) }
 {
     let mut uses = no_uses(alloc, params)?;
-    add_uses(env, ONCE, 0, body, uses.as_mut_slice());
+    add_uses(env, Tally::ONE, 0, body, uses.as_mut_slice());
     Ok(uses)
 }
 
@@ -106,7 +106,7 @@ fn formula_uses(
         (2 ^ 32)) }
 {
     let mut uses = no_uses(alloc, params)?;
-    add_formula_uses(env, ONCE, 0, body, uses.as_mut_slice())?;
+    add_formula_uses(env, Tally::ONE, 0, body, uses.as_mut_slice())?;
     Ok(uses)
 }
 

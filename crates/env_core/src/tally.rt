@@ -1,5 +1,5 @@
 //! Numbers of nodes and heights that stop at 2^32.
-ghost use Rattle.std.specs.Prelude.{◌≡◌, ℕ, ◌+◌, ◌*◌, ◌^◌, min, max};
+ghost use Rattle.std.specs.Prelude.{◌≡◌, ◌↔◌, ◌<◌, ◌⊎◌, ℕ, ◌+◌, ◌*◌, ◌^◌, IsTrue, min, max};
 ghost use Rattle.env_theory.specs.Count.{joined};
 
 /// How many nodes, and how high; 2^32 stands for itself and everything above.
@@ -9,19 +9,14 @@ pub struct Tally {
     pub height: u64,
 }
 
+/// Where counting stops.
 const LIMIT: u64 = 1 << 32;
 
-/// No node.
-pub(crate) const NONE: Tally = Tally {
-    nodes: 0,
-    height: 0,
-};
+/// The most nodes that a formula or a body may have.
+const MOST_NODES: u64 = 65_536;
 
-/// A place of a variable.
-pub(crate) const ONCE: Tally = Tally {
-    nodes: 1,
-    height: 1,
-};
+/// How high one may be.
+const GREATEST_HEIGHT: u64 = 1_024;
 
 /// A step down.
 pub(crate) const STEP: Tally = Tally {
@@ -48,19 +43,38 @@ fn join(a: u64, b: u64) -> u64
 }
 
 impl Tally {
-    /// One more node over what these count.
-    pub(crate) fn one_more(self) -> Tally
-        ensures nodes { result.nodes ≡ min (self.nodes + 1) (2 ^ 32) }
-        ensures height { result.height ≡ min (self.height + 1) (2 ^ 32) }
+    /// No node.
+    pub const NONE: Tally = Tally {
+        nodes: 0,
+        height: 0,
+    };
+
+    /// One node.
+    pub const ONE: Tally = Tally {
+        nodes: 1,
+        height: 1,
+    };
+
+    /// So many more nodes, one on top of another, over what these count.
+    pub fn below(self, more: u64) -> Tally
+        ensures nodes { result.nodes ≡ min (self.nodes + more) (2 ^ 32) }
+        ensures height { result.height ≡ min (self.height + more) (2 ^ 32) }
     {
         Tally {
-            nodes: self.nodes.saturating_add(1).min(LIMIT),
-            height: self.height.saturating_add(1).min(LIMIT),
+            nodes: self.nodes.saturating_add(more).min(LIMIT),
+            height: self.height.saturating_add(more).min(LIMIT),
         }
     }
 
+    /// Whether a limit of formulas and bodies is passed.
+    pub fn passes(self) -> bool
+        ensures { IsTrue result ↔ ((65536 < self.nodes) ⊎ (1024 < self.height)) }
+    {
+        self.nodes > MOST_NODES || self.height > GREATEST_HEIGHT
+    }
+
     /// Two side by side.
-    pub(crate) fn beside(self, other: Tally) -> Tally
+    pub fn beside(self, other: Tally) -> Tally
         ensures nodes { result.nodes ≡ min (self.nodes + other.nodes) (2 ^ 32) }
         ensures height { result.height ≡ min (max self.height other.height) (2 ^ 32) }
     {

@@ -8,7 +8,7 @@ ghost use Rattle.env_core.specs.Rows.{nodes_at, height_at, nodes_row, height_row
 use crate::env::Env;
 use crate::sizes::uses_of;
 use crate::summary::Summary;
-use crate::tally::{NONE, STEP, Tally};
+use crate::tally::{STEP, Tally};
 use base_core::NoMemory;
 use std::alloc::Global;
 use term_core::{Formula, Term};
@@ -211,7 +211,7 @@ pub fn no_uses(alloc: Global, params: usize) -> Result<Vec<Tally>, NoMemory>
 {
     let mut uses = Vec::with_capacity(alloc, params)?;
     while uses.len() < params {
-        uses.push(NONE)?;
+        uses.push(Tally::NONE)?;
     }
     Ok(uses)
 }

@@ -84,18 +84,12 @@ fn normal_excess(env: &Env, decl: &Decl) -> Result<Option<(u64, u64)>, NoMemory>
     }
 }
 
-/// The most nodes that a formula or a body may have.
-const MOST_NODES: u64 = 65_536;
-
-/// How high one may be.
-const GREATEST_HEIGHT: u64 = 1_024;
-
 /// Two numbers of which one passes its limit.
 #[tactic(auto, using(crate::proofs::Measured::cut))]
 fn excess(size: Tally) -> Option<(u64, u64)>
     ensures { (n h : ℕ) → size.nodes ≡ min n (2 ^ 32) → size.height ≡ min h (2 ^ 32) → result ≡ measured n h None }
 {
-    if size.nodes > MOST_NODES || size.height > GREATEST_HEIGHT {
+    if size.passes() {
         Some((size.nodes, size.height))
     } else {
         None

@@ -20,5 +20,5 @@ returns c = (
       ∙ ap (λ fs. formula_value (declarations c.args.env.now) (scope_of fs 0) (meaning c.args.a.now)) c.new-frames.ensures.items
       ∙ formula_whole (declarations c.args.env.now) (meaning c.args.a.now),
   within c.in_ok-size.size.nodes c.in_ok-size.size.height _ _ c.in_ok-size.ensures.nodes c.in_ok-size.ensures.height
-      c.if-size-gt-MOST_NODES.false c.if-size-gt-GREATEST_HEIGHT.false,
+      (λ w. let k = c.passes.ensures.1 w in cc),
 )

@@ -20,5 +20,5 @@ returns c = (
       (meaning c.args.t.now)) c.new-frames.ensures.items
       ∙ term_whole (declarations c.args.env.now) (meaning c.args.t.now),
   within c.term_size-size.result.nodes c.term_size-size.result.height _ _ c.term_size-size.ensures.nodes c.term_size-size.ensures.height
-      c.if-size-gt-MOST_NODES.false c.if-size-gt-GREATEST_HEIGHT.false,
+      (λ w. let k = c.passes.ensures.1 w in cc),
 )

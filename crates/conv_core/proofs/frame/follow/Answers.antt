@@ -2,7 +2,8 @@ use Rattle.std.proofs.Common.{◌+◌, ◌<◌, ◌^◌, sym, ap, subst, ◌∙�
 use Rattle.env_theory.specs.Machine.{leads, Holds, unders, place}
 use Rattle.conv_core.specs.Frames.{scope_of, framed}
 use Rattle.conv_core.specs.declared.frame.Frame.TheVariants.{Body, Under}
-use Rattle.conv_core.proofs.Scoped.{below, leads_under, holds_under, at_whole, many_terms}
+use Rattle.env_core.proofs.Filling.{many_terms}
+use Rattle.conv_core.proofs.Scoped.{below, leads_under, holds_under, at_whole}
 use Rattle.conv_core.proofs.frame.follow.Goals as goal
 
 pub argument_of-requires : goal.argument_of-requires

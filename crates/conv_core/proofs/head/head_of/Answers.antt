@@ -10,7 +10,7 @@ use Rattle.conv_core.specs.declared.frame.Frame.TheVariants.{Body}
 use Rattle.conv_core.proofs.Steps.{holds_variable, free_below, free_value, variable_step, definition_step, rigid_step, onward_more}
 use Rattle.conv_core.proofs.Steps.{extends_none, meaning_Var, pushed_length, parameter_within, parameter_step}
 use Rattle.env_core.specs.Summaries.{Projects}
-use Rattle.conv_core.proofs.Scoped.{many_terms}
+use Rattle.env_core.proofs.Filling.{many_terms}
 use Rattle.conv_core.proofs.head.head_of.Goals as goal
 
 pub follow-requires-clause-holds : goal.follow-requires-clause-holds

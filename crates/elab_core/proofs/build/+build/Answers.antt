@@ -1,6 +1,5 @@
 use Rattle.std.proofs.Common.{arith, ap, ◌∙◌}
 use Rattle.std.proofs.lemmas.Grind.{common_steps}
-use Rattle.vern_parse.specs.Meaning.{expression}
 use Rattle.term_core.specs.Term.{list_meaning}
 use Rattle.env_core.specs.Meaning.{declarations}
 use Rattle.elab_core.specs.Scopes.{locals}

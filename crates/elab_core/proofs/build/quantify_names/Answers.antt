@@ -1,4 +1,4 @@
-use Rattle.std.proofs.Common.{◌-◌, ◌≤◌, ◌<◌, length, take, map, sym, ap, ◌∙◌, arith}
+use Rattle.std.proofs.Common.{◌-◌, take, map, sym, ap, ◌∙◌, arith}
 use Rattle.term_core.specs.Formula.{meaning}
 use Rattle.vern_parse.specs.Meaning.{name}
 use Rattle.elab_theory.specs.Expressions.{quantifier, over_names}

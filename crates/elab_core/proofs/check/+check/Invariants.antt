@@ -2,7 +2,8 @@ use Rattle.std.proofs.Common.{◌≡◌, length, drop, map}
 use Rattle.vern_grammar.specs.Trees.{expressions}
 use Rattle.vern_parse.specs.Meaning.{expression}
 use Rattle.env_core.specs.Meaning.{declarations}
-use Rattle.elab_core.specs.Scopes.{locals, sorts_as}
+use Rattle.env_core.specs.Sorts.{sorts_as}
+use Rattle.elab_core.specs.Scopes.{locals}
 use Rattle.elab_core.specs.Checked.{arguments_fit}
 use Rattle.elab_core.proofs.check.+check.Given as goal
 

@@ -1,4 +1,4 @@
-use Rattle.std.proofs.Common.{◌≡◌, ◌+◌, ◌≤◌, length, take, drop, map, sym, ap, refl, ◌∙◌, arith}
+use Rattle.std.proofs.Common.{◌+◌, length, take, drop, map, sym, ap, ◌∙◌}
 use Rattle.vern_parse.specs.Meaning.{name}
 use Rattle.elab_theory.specs.Expressions.{under_names}
 use Rattle.elab_core.specs.Scopes.{binders_onto}

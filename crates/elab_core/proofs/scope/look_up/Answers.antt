@@ -1,4 +1,4 @@
-use Rattle.std.proofs.Common.{◌+◌, ◌-◌, ◌<◌, ◌≤◌, ◌≡◌, length, sym, ap, ◌∙◌, arith}
+use Rattle.std.proofs.Common.{sym, ap, ◌∙◌, arith}
 use Rattle.fol_theory.specs.Syntax.{is_name}
 use Rattle.term_core.specs.Context.{slots}
 use Rattle.env_core.specs.Meaning.{declarations}

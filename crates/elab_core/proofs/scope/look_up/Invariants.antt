@@ -1,4 +1,4 @@
-use Rattle.std.proofs.Common.{◌≡◌, ◌+◌, ◌≤◌, length, take}
+use Rattle.std.proofs.Common.{◌≡◌, ◌+◌, length, take}
 use Rattle.elab_theory.specs.Locals.{known}
 use Rattle.env_core.specs.Meaning.{declarations}
 use Rattle.elab_core.specs.Scopes.{locals, past}

@@ -1,4 +1,4 @@
-use Rattle.std.proofs.Common.{◌≡◌, sym, ap, ◌∙◌}
+use Rattle.std.proofs.Common.{ap, ◌∙◌}
 use Rattle.env_core.specs.Meaning.{declarations}
 use Rattle.vern_parse.specs.Meaning.{expression}
 use Rattle.elab_core.specs.Scopes.{locals}

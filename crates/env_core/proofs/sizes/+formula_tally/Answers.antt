@@ -15,14 +15,14 @@ returns-in-Pred-clause-nodes t c = c.head_tally.ensures.nodes
 
 pub returns-in-Eq-clause-nodes : goal.returns-in-Eq-clause-nodes
 returns-in-Eq-clause-nodes t c = nodes_two _ _ _ _ _ _ _ c.term_tally.ensures.nodes c.term_tally-in-Eq.ensures.nodes
-    c.beside.ensures.nodes c.one_more.ensures.nodes
+    c.beside.ensures.nodes c.below.ensures.nodes
     (eq_counts by_nodes (nodes_table c.args.env.now) 1
     (weights_of c.args.weights) c.args.a.now c.in-Eq.field-0 c.in-Eq.t c.in-Eq.u c.in-Eq.is)
 
 pub returns-in_ok-formula_tally-in-And-2-clause-nodes : goal.returns-in_ok-formula_tally-in-And-2-clause-nodes
 returns-in_ok-formula_tally-in-And-2-clause-nodes t c = nodes_two _ _ _ _ _ _ _ c.in_ok-formula_tally-in-And.ensures.nodes
     c.in_ok-formula_tally-in-And-2.ensures.nodes
-    c.beside-in-And.ensures.nodes c.one_more-in-And.ensures.nodes
+    c.beside-in-And.ensures.nodes c.below-in-And.ensures.nodes
     (and_counts by_nodes (nodes_table c.args.env.now) 1
     (weights_of c.args.weights) c.args.a.now c.in-And.a c.in-And.b c.deref.result.now c.deref-in-And.result.now c.in-And.is
     c.deref.ensures c.deref-in-And.ensures)
@@ -30,7 +30,7 @@ returns-in_ok-formula_tally-in-And-2-clause-nodes t c = nodes_two _ _ _ _ _ _ _ 
 pub returns-in_ok-formula_tally-in-Or-2-clause-nodes : goal.returns-in_ok-formula_tally-in-Or-2-clause-nodes
 returns-in_ok-formula_tally-in-Or-2-clause-nodes t c = nodes_two _ _ _ _ _ _ _ c.in_ok-formula_tally-in-Or.ensures.nodes
     c.in_ok-formula_tally-in-Or-2.ensures.nodes
-    c.beside-in-Or.ensures.nodes c.one_more-in-Or.ensures.nodes
+    c.beside-in-Or.ensures.nodes c.below-in-Or.ensures.nodes
     (or_counts by_nodes (nodes_table c.args.env.now) 1
     (weights_of c.args.weights) c.args.a.now c.in-Or.a c.in-Or.b c.deref-in-Or.result.now c.deref-in-Or-2.result.now c.in-Or.is
     c.deref-in-Or.ensures c.deref-in-Or-2.ensures)
@@ -38,21 +38,21 @@ returns-in_ok-formula_tally-in-Or-2-clause-nodes t c = nodes_two _ _ _ _ _ _ _ c
 pub returns-in_ok-formula_tally-in-Imp-2-clause-nodes : goal.returns-in_ok-formula_tally-in-Imp-2-clause-nodes
 returns-in_ok-formula_tally-in-Imp-2-clause-nodes t c = nodes_two _ _ _ _ _ _ _ c.in_ok-formula_tally-in-Imp.ensures.nodes
     c.in_ok-formula_tally-in-Imp-2.ensures.nodes
-    c.beside-in-Imp.ensures.nodes c.one_more-in-Imp.ensures.nodes
+    c.beside-in-Imp.ensures.nodes c.below-in-Imp.ensures.nodes
     (imp_counts by_nodes (nodes_table c.args.env.now) 1
     (weights_of c.args.weights) c.args.a.now c.in-Imp.a c.in-Imp.b c.deref-in-Imp.result.now c.deref-in-Imp-2.result.now
     c.in-Imp.is c.deref-in-Imp.ensures c.deref-in-Imp-2.ensures)
 
 pub returns-in_ok-formula_tally-in-All-clause-nodes : goal.returns-in_ok-formula_tally-in-All-clause-nodes
 returns-in_ok-formula_tally-in-All-clause-nodes t c = nodes_one _ _ _ _ c.in_ok-formula_tally-in-All.ensures.nodes
-    c.one_more-in-All.ensures.nodes
+    c.below-in-All.ensures.nodes
     (all_counts by_nodes (nodes_table c.args.env.now) 1
     (weights_of c.args.weights) c.args.a.now c.in-All.field-0 c.in-All.field-1 c.in-All.a c.deref-in-All.result.now
     (weights_of c.in_ok-bound-in-All.field-0) c.in-All.is c.deref-in-All.ensures c.in_ok-bound-in-All.ensures)
 
 pub returns-in_ok-formula_tally-in-Ex-clause-nodes : goal.returns-in_ok-formula_tally-in-Ex-clause-nodes
 returns-in_ok-formula_tally-in-Ex-clause-nodes t c = nodes_one _ _ _ _ c.in_ok-formula_tally-in-Ex.ensures.nodes
-    c.one_more-in-Ex.ensures.nodes
+    c.below-in-Ex.ensures.nodes
     (ex_counts by_nodes (nodes_table c.args.env.now) 1
     (weights_of c.args.weights) c.args.a.now c.in-Ex.field-0 c.in-Ex.field-1 c.in-Ex.a c.deref-in-Ex.result.now
     (weights_of c.in_ok-bound-in-Ex.field-0) c.in-Ex.is c.deref-in-Ex.ensures c.in_ok-bound-in-Ex.ensures)
@@ -64,14 +64,14 @@ returns-in-Pred-clause-height t c = c.head_tally.ensures.height
 
 pub returns-in-Eq-clause-height : goal.returns-in-Eq-clause-height
 returns-in-Eq-clause-height t c = height_two _ _ _ _ _ _ _ c.term_tally.ensures.height c.term_tally-in-Eq.ensures.height
-    c.beside.ensures.height c.one_more.ensures.height
+    c.beside.ensures.height c.below.ensures.height
     (eq_counts by_height (height_table c.args.env.now) 1
     (weights_of c.args.weights) c.args.a.now c.in-Eq.field-0 c.in-Eq.t c.in-Eq.u c.in-Eq.is)
 
 pub returns-in_ok-formula_tally-in-And-2-clause-height : goal.returns-in_ok-formula_tally-in-And-2-clause-height
 returns-in_ok-formula_tally-in-And-2-clause-height t c = height_two _ _ _ _ _ _ _ c.in_ok-formula_tally-in-And.ensures.height
     c.in_ok-formula_tally-in-And-2.ensures.height
-    c.beside-in-And.ensures.height c.one_more-in-And.ensures.height
+    c.beside-in-And.ensures.height c.below-in-And.ensures.height
     (and_counts by_height (height_table c.args.env.now) 1
     (weights_of c.args.weights) c.args.a.now c.in-And.a c.in-And.b c.deref.result.now c.deref-in-And.result.now c.in-And.is
     c.deref.ensures c.deref-in-And.ensures)
@@ -79,7 +79,7 @@ returns-in_ok-formula_tally-in-And-2-clause-height t c = height_two _ _ _ _ _ _ 
 pub returns-in_ok-formula_tally-in-Or-2-clause-height : goal.returns-in_ok-formula_tally-in-Or-2-clause-height
 returns-in_ok-formula_tally-in-Or-2-clause-height t c = height_two _ _ _ _ _ _ _ c.in_ok-formula_tally-in-Or.ensures.height
     c.in_ok-formula_tally-in-Or-2.ensures.height
-    c.beside-in-Or.ensures.height c.one_more-in-Or.ensures.height
+    c.beside-in-Or.ensures.height c.below-in-Or.ensures.height
     (or_counts by_height (height_table c.args.env.now) 1
     (weights_of c.args.weights) c.args.a.now c.in-Or.a c.in-Or.b c.deref-in-Or.result.now c.deref-in-Or-2.result.now c.in-Or.is
     c.deref-in-Or.ensures c.deref-in-Or-2.ensures)
@@ -87,21 +87,21 @@ returns-in_ok-formula_tally-in-Or-2-clause-height t c = height_two _ _ _ _ _ _ _
 pub returns-in_ok-formula_tally-in-Imp-2-clause-height : goal.returns-in_ok-formula_tally-in-Imp-2-clause-height
 returns-in_ok-formula_tally-in-Imp-2-clause-height t c = height_two _ _ _ _ _ _ _ c.in_ok-formula_tally-in-Imp.ensures.height
     c.in_ok-formula_tally-in-Imp-2.ensures.height
-    c.beside-in-Imp.ensures.height c.one_more-in-Imp.ensures.height
+    c.beside-in-Imp.ensures.height c.below-in-Imp.ensures.height
     (imp_counts by_height (height_table c.args.env.now) 1
     (weights_of c.args.weights) c.args.a.now c.in-Imp.a c.in-Imp.b c.deref-in-Imp.result.now c.deref-in-Imp-2.result.now
     c.in-Imp.is c.deref-in-Imp.ensures c.deref-in-Imp-2.ensures)
 
 pub returns-in_ok-formula_tally-in-All-clause-height : goal.returns-in_ok-formula_tally-in-All-clause-height
 returns-in_ok-formula_tally-in-All-clause-height t c = height_one _ _ _ _ c.in_ok-formula_tally-in-All.ensures.height
-    c.one_more-in-All.ensures.height
+    c.below-in-All.ensures.height
     (all_counts by_height (height_table c.args.env.now) 1
     (weights_of c.args.weights) c.args.a.now c.in-All.field-0 c.in-All.field-1 c.in-All.a c.deref-in-All.result.now
     (weights_of c.in_ok-bound-in-All.field-0) c.in-All.is c.deref-in-All.ensures c.in_ok-bound-in-All.ensures)
 
 pub returns-in_ok-formula_tally-in-Ex-clause-height : goal.returns-in_ok-formula_tally-in-Ex-clause-height
 returns-in_ok-formula_tally-in-Ex-clause-height t c = height_one _ _ _ _ c.in_ok-formula_tally-in-Ex.ensures.height
-    c.one_more-in-Ex.ensures.height
+    c.below-in-Ex.ensures.height
     (ex_counts by_height (height_table c.args.env.now) 1
     (weights_of c.args.weights) c.args.a.now c.in-Ex.field-0 c.in-Ex.field-1 c.in-Ex.a c.deref-in-Ex.result.now
     (weights_of c.in_ok-bound-in-Ex.field-0) c.in-Ex.is c.deref-in-Ex.ensures c.in_ok-bound-in-Ex.ensures)
