@@ -1,2 +1,5 @@
+pub mod Bounds
 pub mod Meaning
 pub mod Chains
+pub mod Places
+pub mod Stacks
