@@ -1,0 +1,48 @@
+//! Contexts with one entry more, which has no name: well-formedness doesn't look at names.
+ghost use Rattle.std.specs.Prelude.{◌≡◌, [], ◌∷◌, IfOk};
+ghost use Rattle.fol_theory.specs.Contexts.{hypothesis, variable};
+ghost use Rattle.fol_theory.specs.Slots.{entries, slot};
+ghost use Rattle.term_core.specs.Context.{slot_meaning, slots};
+ghost use Rattle.term_core.specs.Formula.{meaning};
+
+use base_core::NoMemory;
+use std::alloc::Global;
+use term_core::{Context, Formula, Name, Slot};
+
+/// A variable without a name.
+fn variable_slot(alloc: Global, sort: &Name) -> Result<Slot, NoMemory>
+    ensures { IfOk result (λ s. slot_meaning s ≡ slot [] (variable sort.now)) }
+{
+    let name = Name::from_slice(alloc, &[])?;
+    Ok(Slot::Var {
+        name,
+        sort: sort.copy()?,
+    })
+}
+
+/// One variable more, which has no name.
+pub fn with_variable(alloc: Global, context: &Context, sort: &Name) -> Result<Context, NoMemory>
+    ensures { IfOk result (λ c. entries (slots c) ≡ variable sort.now ∷ entries (slots context.now)) }
+{
+    let older = context.copy()?;
+    older.push(alloc, variable_slot(alloc, sort)?)
+}
+
+/// A hypothesis without a name.
+fn hypothesis_slot(alloc: Global, a: &Formula) -> Result<Slot, NoMemory>
+    ensures { IfOk result (λ s. slot_meaning s ≡ slot [] (hypothesis (meaning a.now))) }
+{
+    let name = Name::from_slice(alloc, &[])?;
+    Ok(Slot::Hyp {
+        name,
+        formula: a.copy()?,
+    })
+}
+
+/// One hypothesis more, which has no name.
+pub fn with_hypothesis(alloc: Global, context: &Context, a: &Formula) -> Result<Context, NoMemory>
+    ensures { IfOk result (λ c. entries (slots c) ≡ hypothesis (meaning a.now) ∷ entries (slots context.now)) }
+{
+    let older = context.copy()?;
+    older.push(alloc, hypothesis_slot(alloc, a)?)
+}
