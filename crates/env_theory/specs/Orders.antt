@@ -58,15 +58,16 @@ abbrev pub ParametersHaveNames : (List ℕ → Type 0) → List Parameter → Ty
 ParametersHaveNames N [] = Unit {0}
 ParametersHaveNames N (p ∷ ps) = N p.name × ParametersHaveNames N ps
 
--- and each name that is declared, or printed in what is declared
+-- and each name that is declared, or printed in what is declared; a Stated name may be any
 abbrev pub DeclaresNames : (List ℕ → Type 0) → Declaration → Type 0
 DeclaresNames N (sort n) = N n
 DeclaresNames N (function n ss s) = N n
 DeclaresNames N (predicate n ss) = N n
-DeclaresNames N (stated n a) = N n × PrintsNames N a
+DeclaresNames N (stated n a) = PrintsNames N a
 DeclaresNames N (term n ps s b) = N n × ParametersHaveNames N ps
 DeclaresNames N (formula n ps b) = N n × ParametersHaveNames N ps × PrintsNames N b
 
+-- all of them are names of the language
 abbrev pub NamesAre : (List ℕ → Type 0) → List Declaration → Type 0
 NamesAre N [] = Unit {0}
 NamesAre N (d ∷ E) = DeclaresNames N d × NamesAre N E
