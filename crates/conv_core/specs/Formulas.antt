@@ -22,7 +22,7 @@ Rigid E (implies a b) = Unit {0}
 Rigid E (all s x a) = Unit {0}
 Rigid E (ex s x a) = Unit {0}
 
--- a formula may be read in a scope, and no index of its value passes 2 ^ 64
+-- a formula may be read in a scope, and each index of its value is below 2 ^ 64
 abbrev pub Scoped : List Declaration → Scope → Formula → Type 0
 Scoped E c a = ReadsFormula E c a × (reach (formula_value E c a) ≤ 2 ^ 64)
 

@@ -11,7 +11,7 @@ use Rattle.conv_core.specs.declared.head.Head.{Head}
 use Rattle.conv_core.specs.declared.head.Head.TheVariants.{Variable, Function}
 use Rattle.conv_core.specs.Frames.{scope_of, Ordered, Extends}
 
--- A term may be read in the scope with this number, under `by` quantifiers more, and no index of its value passes 2 ^ 64.
+-- A term may be read in the scope with this number, under `by` quantifiers more, and each index of its value is below 2 ^ 64.
 abbrev pub Standing : List Declaration → List Frame → ℕ → ℕ → Term → Type 0
 Standing E fs c by t = Ordered fs × (c ≤ length fs) × ReadsTerm E (scope_of fs c) t × (by + unders (scope_of fs c) < 2 ^ 64)
     × (term_reach (value E (scope_of fs c) by t) ≤ 2 ^ 64)

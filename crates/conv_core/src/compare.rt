@@ -20,8 +20,8 @@ use std::alloc::Global;
 use term_core::{Formula, Term};
 
 /// Whether two formulas have one normal form but for the names that are printed, of any size. Neither is made, and
-/// nothing recurses. Sizes are compared first, so that with one side within the limits at most as many heads are
-/// compared as it has nodes.
+/// comparing doesn't recurse. Sizes are compared first, by a recursion as deep as the formulas are as written, so that
+/// with one side within the limits at most as many heads are compared as it has nodes.
 #[tactic(auto, using(crate::proofs::Compares::formula_sizes))]
 pub fn same<'a>(
     alloc: Global,
@@ -35,8 +35,8 @@ pub fn same<'a>(
     requires second_indices { reach (normal (declarations env.now) (formula.meaning b.now)) ≤ 2 ^ 64 }
     ensures { IfOk result (λ r. IsTrue r ↔ Same (declarations env.now) (formula.meaning a.now) (formula.meaning b.now)) }
 {
-    let size = env.formula_size(a)?;
-    let other = env.formula_size(b)?;
+    env.environment();
+    let (size, other) = (env.formula_size(a), env.formula_size(b));
     if size.nodes != other.nodes || size.height != other.height {
         return Ok(false);
     }
@@ -65,6 +65,7 @@ pub fn same_terms<'a>(
     ensures { IfOk result (λ r. IsTrue r ↔ (normal_term (declarations env.now) (term.meaning t.now)
         ≡ normal_term (declarations env.now) (term.meaning u.now))) }
 {
+    env.environment();
     let (size, other) = (env.term_size(t), env.term_size(u));
     if size.nodes != other.nodes || size.height != other.height {
         return Ok(false);

@@ -15,15 +15,16 @@ use env_core::Env;
 use std::alloc::Global;
 use term_core::{Formula, Term};
 
-/// The normal form of a formula, all definitions put in. It is counted first, and nothing but the result is made. No
-/// index of it may pass 2^64.
+/// The normal form of a formula, all definitions put in. It is counted first, and nothing but the result is made. Each
+/// index of it is to be below 2^64.
 #[tactic(auto, using(crate::proofs::Limits::limits))]
 pub fn normal(alloc: Global, env: &Env, a: &Formula) -> Result<Formula, NormalFault>
     requires formed { (V : List (List ℕ)) × WellFormed (declarations env.now) V (formula.meaning a.now) }
     requires indices { reach (theory.normal (declarations env.now) (formula.meaning a.now)) ≤ 2 ^ 64 }
     ensures { IsNormal (declarations env.now) (formula.meaning a.now) result }
 {
-    let size = env.formula_size(a)?;
+    env.environment();
+    let size = env.formula_size(a);
     if size.passes() {
         return Err(NormalFault::TooLarge(size.nodes, size.height));
     }
@@ -39,6 +40,7 @@ pub fn normal_term(alloc: Global, env: &Env, t: &Term) -> Result<Term, NormalFau
     requires indices { term_reach (theory.normal_term (declarations env.now) (term.meaning t.now)) ≤ 2 ^ 64 }
     ensures { IsNormalTerm (declarations env.now) (term.meaning t.now) result }
 {
+    env.environment();
     let size = env.term_size(t);
     if size.passes() {
         return Err(NormalFault::TooLarge(size.nodes, size.height));

@@ -14,8 +14,8 @@ use term_core::Name;
 
 /// Entries with names of their own. Contracts see the list of them, the newest first.
 ///
-/// The layers that keep them, the oldest first, have as many entries as there are ones in the binary form of
-/// `len`: each is a power of two, and no two are as long.
+/// There are as many layers, the oldest first, as ones in the binary form of `len`: the length of each is a power of
+/// two, and no two are as long.
 #[derive(Drop)]
 pub struct Entries {
     layers: Vec<Arc<Layer>>,

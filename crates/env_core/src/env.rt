@@ -63,6 +63,13 @@ impl Env {
         }
     }
 
+    /// Nothing is done: callers cite that each declaration is new and well formed over those before it.
+    pub fn environment(&self)
+        ensures { Environment (declarations self.now) }
+    {
+        let _ = &self.entries;
+    }
+
     /// How many declarations there are.
     #[tactic(auto, using(crate::proofs::Kept::keeping))]
     pub fn len(&self) -> u64
@@ -137,7 +144,6 @@ impl Env {
     /// How many nodes the normal form of a term has, and how high it is, each up to 2^32. It isn't made.
     pub fn term_size(&self, t: &Term) -> Tally
         requires { (V : List (List ℕ)) × (s : List ℕ) × HasSort (declarations self.now) V (term.meaning t.now) s }
-        ensures environment { Environment (declarations self.now) }
         ensures nodes { result.nodes ≡ min (term_nodes (normal_term (declarations self.now) (term.meaning t.now))) (2 ^ 32) }
         ensures height { result.height ≡ min (term_height (normal_term (declarations self.now) (term.meaning t.now))) (2 ^ 32) }
     {
@@ -146,14 +152,16 @@ impl Env {
     }
 
     /// How many nodes the normal form of a formula has, and how high it is, each up to 2^32. It isn't made.
-    pub fn formula_size(&self, a: &Formula) -> Result<Tally, NoMemory>
+    pub fn formula_size(&self, a: &Formula) -> Tally
         requires { (V : List (List ℕ)) × WellFormed (declarations self.now) V (formula.meaning a.now) }
-        ensures environment { Environment (declarations self.now) }
-        ensures nodes { IfOk result (λ r. r.nodes ≡ min (nodes (normal (declarations self.now) (formula.meaning a.now))) (2 ^ 32)) }
-        ensures height { IfOk result (λ r. r.height ≡ min (height (normal (declarations self.now) (formula.meaning a.now))) (2 ^ 32)) }
+        ensures nodes { result.nodes ≡ min (nodes (normal (declarations self.now) (formula.meaning a.now))) (2 ^ 32) }
+        ensures height { result.height ≡ min (height (normal (declarations self.now) (formula.meaning a.now))) (2 ^ 32) }
     {
         let _ = &self.entries;
-        formula_tally(self, Weights::Each, a)
+        match formula_tally(self, Weights::Each, a) {
+            Ok(size) => size,
+            Err(_) => unreachable!(),
+        }
     }
 
     /// The head form of a formula: its predicate's definition is put in until its head isn't a defined predicate. The

@@ -225,7 +225,7 @@ fn argument_of<'a>(ts: &'a [Term], index: u64) -> Option<&'a Term>
     }
 }
 
-/// A variable. `NoMemory` where its index passes 2^64, for no context is as long.
+/// A variable. `NoMemory` where its index isn't below 2^64, for no context is as long.
 fn raised(index: u64, by: u64) -> Result<Term, NoMemory>
     ensures { IfOk result (λ r. meaning r ≡ var (index + by)) }
 {

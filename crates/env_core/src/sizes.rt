@@ -1,10 +1,11 @@
 //! Nodes and heights of normal forms, counted from summaries.
-ghost use Rattle.std.specs.Prelude.{◌≡◌, ℕ, ◌^◌, min, option_map, IfOk};
+ghost use Rattle.std.specs.Prelude.{◌≡◌, ℕ, ◌^◌, min, option_map, Ok, IfOk, IsOk};
 ghost use Rattle.term_core.specs.Term.{meaning, list_meaning};
 ghost use Rattle.term_core.specs.Formula as formula;
 ghost use Rattle.env_theory.specs.Count.{by_nodes, by_height, count_term, count_terms, count, headed, spread, bind};
 ghost use Rattle.env_core.specs.Rows.{nodes_at, height_at, nodes_row, height_row, nodes_rows, height_rows, nodes_table, height_table};
 ghost use Rattle.env_core.specs.Weights.{weights_of};
+ghost use Rattle.env_core.specs.declared.sizes.Weights.TheVariants.{Each};
 
 use crate::env::Env;
 use crate::summary::Summary;
@@ -34,7 +35,8 @@ impl Weights {
     /// The same under a quantifier. `NoMemory` where 2^64 stand around.
     #[tactic(auto, using(crate::proofs::Weighing::weighing))]
     fn bound(self) -> Result<Weights, NoMemory>
-        ensures { IfOk result (λ w. weights_of w ≡ bind 1 (weights_of self)) }
+        ensures weights { IfOk result (λ w. weights_of w ≡ bind 1 (weights_of self)) }
+        ensures each { self ≡ Each → result ≡ Ok Each }
     {
         match self {
             Weights::Each => Ok(Weights::Each),
@@ -118,13 +120,15 @@ fn spread_tally(env: &Env, weights: Weights, uses: &[Tally], ts: &[Term]) -> Tal
     all
 }
 
-/// What a formula's normal form counts, with these weights of its variables.
+/// What a formula's normal form counts, with these weights of its variables. `NoMemory` where only some variables count, and
+/// one stands under 2^64 quantifiers.
 #[cycle(formula_tally)]
 pub fn formula_tally(env: &Env, weights: Weights, a: &Formula) -> Result<Tally, NoMemory>
     ensures nodes { IfOk result (λ r. r.nodes
         ≡ min (count by_nodes (nodes_table env.now) 1 (weights_of weights) (formula.meaning a.now)) (2 ^ 32)) }
     ensures height { IfOk result (λ r. r.height
         ≡ min (count by_height (height_table env.now) 1 (weights_of weights) (formula.meaning a.now)) (2 ^ 32)) }
+    ensures each { weights ≡ Each → IsOk result }
 {
     match a {
         Formula::True | Formula::False => Ok(Tally::ONE),

@@ -1,6 +1,6 @@
-//! Contexts with one entry more, which has no name: well-formedness doesn't look at names.
-ghost use Rattle.std.specs.Prelude.{◌≡◌, [], ◌∷◌, IfOk};
-ghost use Rattle.fol_theory.specs.Contexts.{hypothesis, variable};
+//! Contexts with one entry more, which has no name: well-formedness doesn't look at names; and how many variables one has.
+ghost use Rattle.std.specs.Prelude.{◌≡◌, [], ◌∷◌, length, IfOk};
+ghost use Rattle.fol_theory.specs.Contexts.{hypothesis, variable, variables};
 ghost use Rattle.fol_theory.specs.Slots.{entries, slot};
 ghost use Rattle.term_core.specs.Context.{slot_meaning, slots};
 ghost use Rattle.term_core.specs.Formula.{meaning};
@@ -45,4 +45,19 @@ pub fn with_hypothesis(alloc: Global, context: &Context, a: &Formula) -> Result<
 {
     let older = context.copy()?;
     older.push(alloc, hypothesis_slot(alloc, a)?)
+}
+
+/// How many variables there are.
+pub fn count_variables(context: &Context) -> Result<u64, NoMemory>
+    ensures { IfOk result (λ n. n ≡ length (variables (entries (slots context.now)))) }
+{
+    let mut n: u64 = 0;
+    let mut at = context;
+    while let Some((slot, older)) = at.newest() {
+        if let Slot::Var { .. } = slot {
+            n = n.checked_add(1).ok_or(NoMemory)?;
+        }
+        at = older;
+    }
+    Ok(n)
 }

@@ -2,7 +2,7 @@
 ghost use Rattle.std.specs.Prelude.{◌≡◌, ◌≤◌, ◌<◌, ◌+◌, ◌-◌, ◌^◌, ℕ, List, length, IfOk};
 ghost use Rattle.fol_theory.specs.Measures.{depth, reach};
 ghost use Rattle.term_core.specs.Formula.{meaning};
-ghost use Rattle.env_theory.specs.Typing.{Environment, WellFormed};
+ghost use Rattle.env_theory.specs.Typing.{WellFormed};
 ghost use Rattle.env_theory.specs.Normal.{normal};
 ghost use Rattle.env_core.specs.Meaning.{declaration, declarations};
 ghost use Rattle.form_core.specs.Binders.{binders_of};
@@ -39,7 +39,7 @@ pub fn binder_fits(variables: u64, a: &Formula) -> Result<(), NoMemory>
     Ok(())
 }
 
-/// That no index of the normal form of a formula under so many variables passes 2^64, as the calls that compare normal
+/// That each index of the normal form of a formula under so many variables is below 2^64, as the calls that compare normal
 /// forms ask. Else it is want of memory. The normal form isn't made: its height is counted, and where that is too high to
 /// be counted the binders of all definitions are.
 #[tactic(auto, using(crate::proofs::Depths::normal_reach))]
@@ -47,6 +47,7 @@ pub fn normal_fits(env: &Env, variables: u64, a: &Formula) -> Result<(), NoMemor
     requires { (V : List (List ℕ)) × WellFormed (declarations env.now) V (meaning a.now) × (length V ≤ variables) }
     ensures { IfOk result (λ _. reach (normal (declarations env.now) (meaning a.now)) ≤ 2 ^ 64) }
 {
+    env.environment();
     let binders = normal_binders(env, a)?;
     if variables > u64::MAX - binders {
         return Err(NoMemory);
@@ -58,10 +59,9 @@ pub fn normal_fits(env: &Env, variables: u64, a: &Formula) -> Result<(), NoMemor
 #[tactic(auto, using(crate::proofs::Depths::depth_counted))]
 fn normal_binders(env: &Env, a: &Formula) -> Result<u64, NoMemory>
     requires { (V : List (List ℕ)) × WellFormed (declarations env.now) V (meaning a.now) }
-    ensures environment { IfOk result (λ _. Environment (declarations env.now)) }
-    ensures binders { IfOk result (λ n. depth (normal (declarations env.now) (meaning a.now)) ≤ n) }
+    ensures { IfOk result (λ n. depth (normal (declarations env.now) (meaning a.now)) ≤ n) }
 {
-    let size = env.formula_size(a)?;
+    let size = env.formula_size(a);
     if size.height < LIMIT {
         return Ok(size.height);
     }

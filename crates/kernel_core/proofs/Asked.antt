@@ -1,5 +1,5 @@
 -- What rules ask of hypotheses, of what is stated, and of instances.
-use Rattle.std.proofs.Common.{◌≡◌, ◌↔◌, ℕ, ◌+◌, ◌-◌, ◌^◌, ◌≤◌, ◌<◌, Bool, IsTrue, nat_lt, List, [], ◌∷◌, Some, sym, ap, subst, ◌∙◌, arith}
+use Rattle.std.proofs.Common.{◌≡◌, ◌↔◌, ℕ, ◌+◌, ◌-◌, ◌^◌, ◌≤◌, ◌<◌, Bool, IsTrue, nat_lt, List, [], ◌∷◌, Some, ap, subst, ◌∙◌, arith}
 use Rattle.std.proofs.lemmas.Bool.{ltb-true, lt-ltb}
 use Rattle.fol_theory.specs.Syntax.{Term, Formula}
 use Rattle.fol_theory.specs.Substitution.{first, instantiate}
@@ -12,7 +12,7 @@ use Rattle.env_theory.specs.Normal.{Same}
 use Rattle.env_theory.proofs.Sorts.{replace_formed, fits_first}
 use Rattle.env_theory.proofs.Declared.{declares_found}
 use Rattle.env_theory.proofs.Members.{found_name}
-use Rattle.logic_theory.specs.Rules.{FormedContext, hyp, known, ex_i, eq_e, Asks}
+use Rattle.logic_theory.specs.Rules.{FormedContext, hyp, ex_i, eq_e, Asks}
 use Rattle.logic_theory.proofs.Trees.{is_member, hypotheses_formed}
 use Rattle.proof_tree.specs.Places.{InstanceFits, LiftFits}
 use Rattle.proof_tree.proofs.Indices.{instance_fits, lift_fits}
@@ -42,9 +42,6 @@ found_stated E e n m a h = (
   declares_found E e n (stated m a) h,
 )
 
-stated_once : (n : List ℕ) (a b : Formula) → Some (stated n a) ≡ Some (stated n b) → a ≡ b
-stated_once n a b h = cc
-
 -- an instance is well formed
 pub instance_formed : (E : List Declaration) (V : List (List ℕ)) (s : List ℕ) (b : Formula) (t : Term) → WellFormed E (s ∷ V) b
     → HasSort E V t s → WellFormed E V (instantiate b t)
@@ -56,14 +53,6 @@ pub hypothesis_asked : (E : List Declaration) (c : List Entry) (g : Formula) (i 
 hypothesis_asked E c g i a h b k = (
   (λ t. (a, h, k.0 t)),
   (λ q. k.1 (subst (λ z. Same E z g) (hypothesis_once c i q.0 a q.1 h) q.2)),
-)
-
--- and so does what is stated
-pub stated_asked : (E : List Declaration) (c : List Entry) (g : Formula) (n : List ℕ) (a : Formula) → find E n ≡ Some (stated n a)
-    → WellFormed E [] a → (b : Bool) → IsTrue b ↔ Same E a g → IsTrue b ↔ Asks E (known n) c g
-stated_asked E c g n a h w b k = (
-  (λ t. (a, h, w, k.0 t)),
-  (λ q. k.1 (subst (λ z. Same E z g) (stated_once n q.0 a (sym q.1 ∙ h)) q.3)),
 )
 
 -- ---- that 64 bits hold the indices of what is made

@@ -14,10 +14,9 @@ use Rattle.term_core.specs.declared.context.Sequent.{Sequent as Place}
 use Rattle.term_core.specs.Context as context
 use Rattle.proof_tree.specs.declared.rule.Rule.{Rule}
 use Rattle.proof_tree.specs.Meaning.{meanings}
-use Rattle.proof_tree.specs.Stacks.{waiting, led_to}
+use Rattle.proof_tree.specs.Stacks.{waiting}
 use Rattle.proof_tree.proofs.Stacked.{top}
 use Rattle.kernel_core.specs.Proofs.{IsProof}
-use Rattle.kernel_core.specs.Sites.{AsksRule}
 use Rattle.kernel_core.specs.Stacks.{IsReady, AreReady, Proves, TakesRule}
 
 false_is_not : IsTrue false → ⊥
@@ -63,17 +62,6 @@ others_ready E n (g ∷ gs) h = ((h.0.0, omega (arith, h.0.1)), others_ready E n
 
 -- ---- one rule
 
--- what is answered of a rule: what it asks, and what its children do to the sequents
-pub taken_rule : (E : List Declaration) (r : Meaning) (g : Sequent) (old new : List Sequent) → AsksRule E r g → new ≡ led_to r g ++ old
-    → TakesRule E r g old new true
-taken_rule E (leaf ns) g old new q e = absurd q
-taken_rule E (step r) g old new q e = (q, e)
-
-pub refused_rule : (E : List Declaration) (r : Meaning) (g : Sequent) (old new : List Sequent) → (AsksRule E r g → ⊥)
-    → TakesRule E r g old new false
-refused_rule E (leaf ns) g old new q = refl
-refused_rule E (step r) g old new q = q
-
 taken : (E : List Declaration) (r : Meaning) (g : Sequent) (old new : List Sequent) (b : Bool) → TakesRule E r g old new b → (rs : List Meaning)
     → (IsTrue b × Proves E rs new) ↔ Proves E (r ∷ rs) (g ∷ old)
 taken E (leaf ns) g old new true h rs = absurd (false_is_not (sym h))
@@ -111,15 +99,6 @@ module _ (E : List Declaration) (old rest : List Place) (p : Place) (e : old ≡
   pub next_ready : (n : ℕ) (r : Meaning) (new : List Sequent) (b : Bool) → TakesRule E r (context.meaning p) (waiting rest) new b
       → AreReady E n (waiting old) → IsTrue b → AreReady E (n + 1) new
   next_ready n r new b h y t = let w = on_top n y in taken_ready E n r (context.meaning p) (waiting rest) new b h w.0 w.1 t
-
--- nothing is on the stack, so no rule proves what waits
-pub none_proved : (E : List Declaration) (old : List Place) → old ≡ [] → (r : Meaning) (rs : List Meaning)
-    → Proves E (r ∷ rs) (waiting old) → ⊥
-none_proved E old e r rs q = go r (subst (λ ps. Follows E (r ∷ rs) (waiting ps)) e q.0)
-  where
-    go : (r : Meaning) → Follows E (r ∷ rs) (waiting []) → ⊥
-    go (leaf ns) h = h
-    go (step s) h = h
 
 -- ---- rules one after another
 

@@ -1,9 +1,6 @@
 //! Going through a tree's rules.
 ghost use Rattle.std.specs.Prelude.{◌≡◌, ◌↔◌, ◌+◌, ◌≤◌, [], ◌∷◌, List, length, map, IfOk, IsTrue};
-ghost use Rattle.fol_theory.specs.Contexts.{variables};
-ghost use Rattle.fol_theory.specs.Slots.{entries};
 ghost use Rattle.term_core.specs.Context as context;
-ghost use Rattle.term_core.specs.Context.{slots};
 ghost use Rattle.env_core.specs.Meaning.{declarations};
 ghost use Rattle.logic_theory.specs.Rules as theory;
 ghost use Rattle.proof_tree.specs.Meaning.{meaning, meanings};
@@ -20,10 +17,10 @@ use crate::rules::{
 use crate::site::Site;
 use base_core::NoMemory;
 use env_core::Env;
-use form_core::binder_fits;
+use form_core::{binder_fits, count_variables};
 use proof_tree::{Rule, Tree, push_children};
 use std::alloc::Global;
-use term_core::{Context, Sequent, Slot};
+use term_core::Sequent;
 
 /// Whether the tree is a proof of the sequent, whatever the tree. Where it is, the sequent has a derivation.
 pub fn check(alloc: Global, env: &Env, sequent: &Sequent, tree: &Tree) -> Result<bool, NoMemory>
@@ -36,21 +33,6 @@ pub fn check(alloc: Global, env: &Env, sequent: &Sequent, tree: &Tree) -> Result
     let variables = count_variables(&sequent.context)?;
     let proved = follow(alloc, env, &rules, sequent.copy()?, variables)?;
     Ok(proved)
-}
-
-/// How many variables there are.
-fn count_variables(context: &Context) -> Result<u64, NoMemory>
-    ensures { IfOk result (λ n. n ≡ length (variables (entries (slots context.now)))) }
-{
-    let mut n: u64 = 0;
-    let mut at = context;
-    while let Some((slot, older)) = at.newest() {
-        if let Slot::Var { .. } = slot {
-            n = n.checked_add(1).ok_or(NoMemory)?;
-        }
-        at = older;
-    }
-    Ok(n)
 }
 
 /// Whether rules in preorder are a proof of a sequent that has so many variables. Each rule adds one at the most, so no

@@ -122,8 +122,7 @@ impl<'a> Site<'a> {
             (λ a. (find (environment self.now) name.now ≡ Some (stated name.now (meaning a.now)))
             × WellFormed (environment self.now) [] (meaning a.now)) }
     {
-        // A size tells that the declarations are an environment.
-        let _size = self.env.formula_size(&Formula::True);
+        self.env.environment();
         match self.env.find(name) {
             Some(Decl::Stated { formula, .. }) => Some(formula),
             _ => None,

@@ -63,7 +63,7 @@ fn judge(env: &Env, typed: Result<Decl, ElabFault>) -> Result<Decl, Refusal>
     ensures { (w : Result Declaration TypingFault) → Types typed w → Answers declaration refused result (within (declarations env.now) w) }
 {
     match typed {
-        Ok(decl) => match normal_excess(env, &decl)? {
+        Ok(decl) => match normal_excess(env, &decl) {
             None => Ok(decl),
             Some((nodes, height)) => Err(Refusal::Fault(Fault::TooLarge(nodes, height))),
         },
@@ -72,15 +72,15 @@ fn judge(env: &Env, typed: Result<Decl, ElabFault>) -> Result<Decl, Refusal>
 }
 
 /// The nodes and the height of the normal form of what is declared, where one of them passes its limit.
-fn normal_excess(env: &Env, decl: &Decl) -> Result<Option<(u64, u64)>, NoMemory>
+fn normal_excess(env: &Env, decl: &Decl) -> Option<(u64, u64)>
     requires { Declares (declarations env.now) (declaration decl.now) }
-    ensures { IfOk result (λ excess. excess ≡ normal_excess (declarations env.now) (declaration decl.now)) }
+    ensures { result ≡ normal_excess (declarations env.now) (declaration decl.now) }
 {
     match decl {
-        Decl::Sort { .. } | Decl::Fun { .. } | Decl::Pred { .. } => Ok(None),
-        Decl::Stated { formula, .. } => Ok(excess(env.formula_size(formula)?)),
-        Decl::DefFun { body, .. } => Ok(excess(env.term_size(body))),
-        Decl::DefPred { body, .. } => Ok(excess(env.formula_size(body)?)),
+        Decl::Sort { .. } | Decl::Fun { .. } | Decl::Pred { .. } => None,
+        Decl::Stated { formula, .. } => excess(env.formula_size(formula)),
+        Decl::DefFun { body, .. } => excess(env.term_size(body)),
+        Decl::DefPred { body, .. } => excess(env.formula_size(body)),
     }
 }
 

@@ -19,6 +19,6 @@ returns c = (
   c.in_ok-made.ensures.value
       ∙ ap (λ fs. formula_value (declarations c.args.env.now) (scope_of fs 0) (meaning c.args.a.now)) c.new-frames.ensures.items
       ∙ formula_whole (declarations c.args.env.now) (meaning c.args.a.now),
-  within c.in_ok-size.size.nodes c.in_ok-size.size.height _ _ c.in_ok-size.ensures.nodes c.in_ok-size.ensures.height
+  within c.formula_size-size.result.nodes c.formula_size-size.result.height _ _ c.formula_size-size.ensures.nodes c.formula_size-size.ensures.height
       (λ w. let k = c.passes.ensures.1 w in cc),
 )

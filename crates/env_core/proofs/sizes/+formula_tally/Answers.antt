@@ -48,14 +48,14 @@ returns-in_ok-formula_tally-in-All-clause-nodes t c = nodes_one _ _ _ _ c.in_ok-
     c.below-in-All.ensures.nodes
     (all_counts by_nodes (nodes_table c.args.env.now) 1
     (weights_of c.args.weights) c.args.a.now c.in-All.field-0 c.in-All.field-1 c.in-All.a c.deref-in-All.result.now
-    (weights_of c.in_ok-bound-in-All.field-0) c.in-All.is c.deref-in-All.ensures c.in_ok-bound-in-All.ensures)
+    (weights_of c.in_ok-bound-in-All.field-0) c.in-All.is c.deref-in-All.ensures c.in_ok-bound-in-All.ensures.weights)
 
 pub returns-in_ok-formula_tally-in-Ex-clause-nodes : goal.returns-in_ok-formula_tally-in-Ex-clause-nodes
 returns-in_ok-formula_tally-in-Ex-clause-nodes t c = nodes_one _ _ _ _ c.in_ok-formula_tally-in-Ex.ensures.nodes
     c.below-in-Ex.ensures.nodes
     (ex_counts by_nodes (nodes_table c.args.env.now) 1
     (weights_of c.args.weights) c.args.a.now c.in-Ex.field-0 c.in-Ex.field-1 c.in-Ex.a c.deref-in-Ex.result.now
-    (weights_of c.in_ok-bound-in-Ex.field-0) c.in-Ex.is c.deref-in-Ex.ensures c.in_ok-bound-in-Ex.ensures)
+    (weights_of c.in_ok-bound-in-Ex.field-0) c.in-Ex.is c.deref-in-Ex.ensures c.in_ok-bound-in-Ex.ensures.weights)
 
 pub returns-in-Pred-clause-height : goal.returns-in-Pred-clause-height
 returns-in-Pred-clause-height t c = c.head_tally.ensures.height
@@ -97,11 +97,11 @@ returns-in_ok-formula_tally-in-All-clause-height t c = height_one _ _ _ _ c.in_o
     c.below-in-All.ensures.height
     (all_counts by_height (height_table c.args.env.now) 1
     (weights_of c.args.weights) c.args.a.now c.in-All.field-0 c.in-All.field-1 c.in-All.a c.deref-in-All.result.now
-    (weights_of c.in_ok-bound-in-All.field-0) c.in-All.is c.deref-in-All.ensures c.in_ok-bound-in-All.ensures)
+    (weights_of c.in_ok-bound-in-All.field-0) c.in-All.is c.deref-in-All.ensures c.in_ok-bound-in-All.ensures.weights)
 
 pub returns-in_ok-formula_tally-in-Ex-clause-height : goal.returns-in_ok-formula_tally-in-Ex-clause-height
 returns-in_ok-formula_tally-in-Ex-clause-height t c = height_one _ _ _ _ c.in_ok-formula_tally-in-Ex.ensures.height
     c.below-in-Ex.ensures.height
     (ex_counts by_height (height_table c.args.env.now) 1
     (weights_of c.args.weights) c.args.a.now c.in-Ex.field-0 c.in-Ex.field-1 c.in-Ex.a c.deref-in-Ex.result.now
-    (weights_of c.in_ok-bound-in-Ex.field-0) c.in-Ex.is c.deref-in-Ex.ensures c.in_ok-bound-in-Ex.ensures)
+    (weights_of c.in_ok-bound-in-Ex.field-0) c.in-Ex.is c.deref-in-Ex.ensures c.in_ok-bound-in-Ex.ensures.weights)

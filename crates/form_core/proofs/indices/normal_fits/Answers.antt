@@ -7,5 +7,5 @@ use Rattle.form_core.proofs.indices.normal_fits.Goals as goal
 pub returns : goal.returns
 returns c =
     let k : c.args.variables + c.in_ok-binders.binders ≤ 2 ^ 64 = search (rules, arith) in
-    normal_reach (declarations c.args.env.now) c.in_ok-binders.ensures.environment (meaning c.args.a.now) c.args.variables
-    c.in_ok-binders.binders c.requires c.in_ok-binders.ensures.binders k
+    normal_reach (declarations c.args.env.now) c.environment.ensures (meaning c.args.a.now) c.args.variables
+    c.in_ok-binders.binders c.requires c.in_ok-binders.ensures k

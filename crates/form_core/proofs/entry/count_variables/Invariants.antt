@@ -2,7 +2,7 @@ use Rattle.std.proofs.Common.{◌≡◌, ◌+◌, length}
 use Rattle.fol_theory.specs.Contexts.{variables}
 use Rattle.fol_theory.specs.Slots.{entries}
 use Rattle.term_core.specs.Context.{slots}
-use Rattle.kernel_core.proofs.follow.count_variables.Given as goal
+use Rattle.form_core.proofs.entry.count_variables.Given as goal
 
 abbrev pub decreases-loop-slot : goal.decreases-loop-slot
 decreases-loop-slot l = length (slots l.at)
