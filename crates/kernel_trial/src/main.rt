@@ -1,11 +1,13 @@
 //! The program `kernel_trial`: it reads rows from standard input, and writes behind each whether its tree is a proof.
 //!
 //! A row is a sentence, which declares something for the rows behind it; `reset`, which begins anew with nothing declared;
-//! or a value with a context, a goal and the rules of a tree, as README.md tells. The rows and their answers were typed
+//! a value with a context, a goal and the rules of a tree; or two formulas or terms, of which normal forms are told, as
+//! README.md tells. The rows and their answers were typed
 //! from the table of the kernel's rules: stdin and stdout are the tests of kernel_core, and so of form_core, as data that
 //! cost no proof. No program above uses this crate.
 #![tactic(auto)]
 
+mod forms;
 mod rows;
 mod rules;
 mod spell;

@@ -8,6 +8,7 @@ ghost use Rattle.logic_theory.specs.Rules.{Formed, FormedContext};
 ghost use Rattle.vern_step.specs.Parsed.{kind_in};
 ghost use Rattle.vern_step.specs.declared.kind.Kind.TheVariants.{Plain};
 
+use crate::forms::compared;
 use crate::rules::push_rule;
 use crate::spell::{Unread, formula_at, formula_of};
 use base_core::Steps;
@@ -32,6 +33,11 @@ pub enum Told {
     Anew,
     Proof,
     NoProof,
+    NormalForm,
+    OtherForm,
+    TooLarge,
+    Same,
+    Different,
     IllFormed,
     Misspelled,
     NoMemory,
@@ -46,6 +52,11 @@ impl Told {
             Told::Anew => b"anew",
             Told::Proof => b"proof",
             Told::NoProof => b"no proof",
+            Told::NormalForm => b"normal form",
+            Told::OtherForm => b"another form",
+            Told::TooLarge => b"too large",
+            Told::Same => b"the same",
+            Told::Different => b"different",
             Told::IllFormed => b"ill formed",
             Told::Misspelled => b"misspelled",
             Told::NoMemory => b"out of memory",
@@ -133,11 +144,14 @@ fn checked(alloc: Global, env: &Env, row: &[u8]) -> Told {
     }
 }
 
-/// The same of the value: a context, a goal, and a list of rules.
+/// The same of the value: a context, a goal, and a list of rules; or what `compared` reads, which begins with an atom.
 fn checked_value(alloc: Global, env: &Env, value: &Sexp) -> Result<Told, Unread> {
     let Sexp::List(parts) = value else {
         return Err(Unread::Misspelled);
     };
+    if let Some(Sexp::Atom(_)) = parts.first() {
+        return compared(alloc, env, parts.as_slice());
+    }
     if parts.len() != 3 {
         return Err(Unread::Misspelled);
     }
