@@ -1,0 +1,7 @@
+use Rattle.std.proofs.Common.{◌≡◌, true}
+use Rattle.tactic_theory.specs.States.{find_brace}
+use Rattle.proof_state.specs.Frames.{frames_in, seen}
+use Rattle.proof_state.proofs.frames.Frames.find_brace.Given as goal
+
+abbrev pub invariant-loop-at : goal.invariant-loop-at
+invariant-loop-at l = seen l.none_above (find_brace (frames_in l.at)) ≡ seen true (find_brace (frames_in l.self))
