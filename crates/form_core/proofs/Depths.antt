@@ -2,16 +2,16 @@
 use Rattle.std.proofs.Common.{◌≡◌, ℕ, suc, ◌+◌, ◌-◌, ◌<◌, ◌≤◌, ◌^◌, min, List, [], ◌∷◌, length, drop, refl, sym, ap, subst, ◌∙◌}
 use Rattle.std.proofs.Common.{inl, inr, Bool, true, false, if◌then◌else◌, arith}
 use Rattle.fol_theory.specs.Syntax.{Term, Formula, truth, falsity, pred, equal, both, either, implies, all, ex, is_name}
-use Rattle.fol_theory.specs.Substitution.{replace, shift, under, first, instantiate, substitute, raise, next}
+use Rattle.fol_theory.specs.Substitution.{replace, shift, first, instantiate, substitute, raise}
 use Rattle.fol_theory.specs.Measures.{depth, height, reach}
 use Rattle.fol_theory.specs.Contexts.{IsFromLast}
 use Rattle.fol_theory.proofs.Sizes.{depth_kept, depth_below}
-use Rattle.fol_theory.proofs.AtIndex.{first_put, next_raise}
+use Rattle.fol_theory.proofs.AtIndex.{first_put}
 use Rattle.env_theory.specs.Declarations.{Declaration, sort, function, predicate, stated, term, formula}
 use Rattle.env_theory.specs.Typing.{Environment, HasSort, WellFormed}
 use Rattle.env_theory.specs.Normal.{argument, unfold_function, unfold_predicate, expand, normal}
 use Rattle.env_theory.proofs.Keeps.{normal_formed}
-use Rattle.env_theory.proofs.Sorts.{formula_reach, replace_formed, fits_first, fits_next}
+use Rattle.env_theory.proofs.Sorts.{formula_reach, replace_formed, fits_first}
 use Rattle.form_core.specs.Binders.{binders_of, binders}
 
 function_depth : (n : List ℕ) (b : Term) (a : Formula) → depth (unfold_function n b a) ≡ depth a
@@ -91,21 +91,10 @@ instance_reach E V s b t n w h e l =
     let r = formula_reach E V (replace (first t) b) f in
     subst (λ σ. reach (replace σ b) ≤ 2 ^ 64) (first_put t) (omega (arith, r, depth_kept (first t) b, e, l))
 
--- nor does one of a formula under one variable more
-pub under_reach : (E : List Declaration) (V : List (List ℕ)) (a : Formula) (n : ℕ) → WellFormed E V a → length V ≤ n
-    → n + depth a < 2 ^ 64 - 1 → reach (shift 0 1 a) ≤ 2 ^ 64
-under_reach E V a n w e l =
-    let f = replace_formed E next V ([] ∷ V) (fits_next E [] V) a w in
-    let r = formula_reach E ([] ∷ V) (replace next a) f in
-    subst (λ σ. reach (replace σ a) ≤ 2 ^ 64) next_raise (omega (arith, r, depth_kept next a, e, l))
-
--- nor one of a hypothesis as it stands under all variables
+-- nor does one of a hypothesis as it stands under all variables
 pub shifted_reach : (E : List Declaration) (V : List (List ℕ)) (a : Formula) (by n : ℕ) → WellFormed E V (shift 0 by a) → length V ≤ n
     → n + depth a < 2 ^ 64 - 1 → reach (shift 0 by a) ≤ 2 ^ 64
 shifted_reach E V a by n w e l = let r = formula_reach E V (shift 0 by a) w in omega (arith, r, depth_kept (raise 0 by) a, e, l)
 
 pub instance_is : (b : Formula) (t : Term) → substitute 0 t b ≡ instantiate b t
 instance_is b t = ap (λ σ. replace σ b) (sym (first_put t))
-
-pub under_is : (a : Formula) → shift 0 1 a ≡ under a
-under_is a = ap (λ σ. replace σ a) (sym next_raise)

@@ -1,6 +1,6 @@
 //! That 64 bits hold the indices of what is made.
-ghost use Rattle.std.specs.Prelude.{◌≡◌, ◌≤◌, ◌<◌, ◌+◌, ◌-◌, ◌^◌, ℕ, List, length, IfOk};
-ghost use Rattle.fol_theory.specs.Measures.{depth, reach};
+ghost use Rattle.std.specs.Prelude.{◌≡◌, ◌≤◌, ◌<◌, ◌+◌, ◌-◌, ◌^◌, ℕ, List, length, IfOk, IsOk};
+ghost use Rattle.fol_theory.specs.Measures.{depth, height, reach};
 ghost use Rattle.term_core.specs.Formula.{meaning};
 ghost use Rattle.env_theory.specs.Typing.{WellFormed};
 ghost use Rattle.env_theory.specs.Normal.{normal};
@@ -14,10 +14,12 @@ use term_core::Formula;
 /// Where counted heights stop.
 const LIMIT: u64 = 1 << 32;
 
-/// A number that is greater than that of the binders around any place. A formula that is 2^32 nodes high takes more
-/// memory than there is.
+/// The height of a formula, which is greater than the number of the binders around any place. `NoMemory` where it is 2^32
+/// nodes high.
 #[tactic(auto, using(crate::proofs::Depths::depth_counted))]
 fn binders_in(a: &Formula) -> Result<u64, NoMemory>
+    ensures height { IfOk result (λ n. n ≡ height (meaning a.now)) }
+    ensures counted { height (meaning a.now) < 2 ^ 32 → IsOk result }
     ensures binders { IfOk result (λ n. depth (meaning a.now) < n) }
     ensures limit { IfOk result (λ n. n < 2 ^ 32) }
 {
@@ -28,9 +30,12 @@ fn binders_in(a: &Formula) -> Result<u64, NoMemory>
     Ok(height)
 }
 
-/// That 64 bits hold so many variables, the binders around any place of a formula, and one binder more.
+/// That 64 bits hold so many variables, the binders around any place of a formula, and one binder more. It is so, and is
+/// told, where the formula is less than 2^32 nodes high and the variables and the nodes of that height are fewer than
+/// 2^64 - 1 together.
 pub fn binder_fits(variables: u64, a: &Formula) -> Result<(), NoMemory>
-    ensures { IfOk result (λ _. variables + depth (meaning a.now) < 2 ^ 64 - 1) }
+    ensures fits { IfOk result (λ _. variables + depth (meaning a.now) < 2 ^ 64 - 1) }
+    ensures told { height (meaning a.now) < 2 ^ 32 → variables + height (meaning a.now) < 2 ^ 64 - 1 → IsOk result }
 {
     let binders = binders_in(a)?;
     if variables >= u64::MAX - binders {
@@ -45,7 +50,9 @@ pub fn binder_fits(variables: u64, a: &Formula) -> Result<(), NoMemory>
 #[tactic(auto, using(crate::proofs::Depths::normal_reach))]
 pub fn normal_fits(env: &Env, variables: u64, a: &Formula) -> Result<(), NoMemory>
     requires { (V : List (List ℕ)) × WellFormed (declarations env.now) V (meaning a.now) × (length V ≤ variables) }
-    ensures { IfOk result (λ _. reach (normal (declarations env.now) (meaning a.now)) ≤ 2 ^ 64) }
+    ensures fits { IfOk result (λ _. reach (normal (declarations env.now) (meaning a.now)) ≤ 2 ^ 64) }
+    ensures told { height (normal (declarations env.now) (meaning a.now)) < 2 ^ 32
+        → variables + height (normal (declarations env.now) (meaning a.now)) < 2 ^ 64 → IsOk result }
 {
     env.environment();
     let binders = normal_binders(env, a)?;
@@ -59,7 +66,10 @@ pub fn normal_fits(env: &Env, variables: u64, a: &Formula) -> Result<(), NoMemor
 #[tactic(auto, using(crate::proofs::Depths::depth_counted))]
 fn normal_binders(env: &Env, a: &Formula) -> Result<u64, NoMemory>
     requires { (V : List (List ℕ)) × WellFormed (declarations env.now) V (meaning a.now) }
-    ensures { IfOk result (λ n. depth (normal (declarations env.now) (meaning a.now)) ≤ n) }
+    ensures binders { IfOk result (λ n. depth (normal (declarations env.now) (meaning a.now)) ≤ n) }
+    ensures counted { height (normal (declarations env.now) (meaning a.now)) < 2 ^ 32 → IsOk result }
+    ensures height { height (normal (declarations env.now) (meaning a.now)) < 2 ^ 32
+        → IfOk result (λ n. n ≡ height (normal (declarations env.now) (meaning a.now))) }
 {
     let size = env.formula_size(a);
     if size.height < LIMIT {

@@ -28,16 +28,6 @@ pub fn instantiate(
     body.substitute(alloc, 0, t)
 }
 
-/// The formula as it stands under one variable more.
-#[tactic(auto, using(crate::proofs::Depths::under_is))]
-pub fn under(alloc: Global, variables: u64, a: &Formula) -> Result<Formula, NoMemory>
-    requires { (E : List Declaration) × (V : List (List ℕ)) × WellFormed E V (meaning a.now) × (length V ≤ variables) }
-    ensures { IfOk result (λ f. meaning f ≡ theory.under (meaning a.now)) }
-{
-    binder_fits(variables, a)?;
-    a.shift(alloc, 0, 1)
-}
-
 /// The formula as it stands under newer variables, of which `variables` counts all.
 pub fn shifted(alloc: Global, variables: u64, a: &Formula, newer: u64) -> Result<Formula, NoMemory>
     requires { (E : List Declaration) × (V : List (List ℕ)) × WellFormed E V (theory.shift 0 newer (meaning a.now))

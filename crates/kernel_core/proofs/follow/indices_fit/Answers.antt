@@ -14,7 +14,7 @@ returns-in-ExI c =
     let g = sequent_at c.args.site.now in
     IfOk-weaker c.binder_fits.result _ _ (λ x k. subst (λ r. IndicesFit (meaning r) g) (sym c.in-ExI.is)
     (instance_room E g c.args.site.now.most c.in-ExI.field-0 (formula.meaning c.in-ExI.body) (term.meaning c.in-ExI.field-2)
-    c.requires.ready (subst (λ r. AsksRule E (meaning r) g) c.in-ExI.is c.requires.asked) k)) c.binder_fits.ensures
+    c.requires.ready (subst (λ r. AsksRule E (meaning r) g) c.in-ExI.is c.requires.asked) k)) c.binder_fits.ensures.fits
 
 pub returns-in-EqE : goal.returns-in-EqE
 returns-in-EqE c =
@@ -23,10 +23,10 @@ returns-in-EqE c =
     IfOk-weaker c.binder_fits-in-EqE.result _ _ (λ x k. subst (λ r. IndicesFit (meaning r) g) (sym c.in-EqE.is)
     (equation_room E g c.args.site.now.most c.in-EqE.field-0 (formula.meaning c.in-EqE.body) (term.meaning c.in-EqE.field-2)
     (term.meaning c.in-EqE.field-3) c.requires.ready (subst (λ r. AsksRule E (meaning r) g) c.in-EqE.is c.requires.asked) k))
-    c.binder_fits-in-EqE.ensures
+    c.binder_fits-in-EqE.ensures.fits
 
 pub returns-in-ExE : goal.returns-in-ExE
 returns-in-ExE c =
     IfOk-weaker c.binder_fits-in-ExE.result _ _ (λ x k. subst (λ r. IndicesFit (meaning r) (sequent_at c.args.site.now)) (sym c.in-ExE.is)
     (goal_room (environment c.args.site.now) (sequent_at c.args.site.now) c.args.site.now.most c.requires.ready k))
-    c.binder_fits-in-ExE.ensures
+    c.binder_fits-in-ExE.ensures.fits

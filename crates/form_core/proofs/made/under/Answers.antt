@@ -1,7 +1,0 @@
-use Rattle.term_core.specs.Formula.{meaning}
-use Rattle.form_core.proofs.Depths.{under_reach}
-use Rattle.form_core.proofs.made.under.Goals as goal
-
-pub shift-requires-clause-indices : goal.shift-requires-clause-indices
-shift-requires-clause-indices c = under_reach c.requires.0 c.requires.1 (meaning c.args.a.now) c.args.variables c.requires.2 c.requires.3
-    c.in_ok-binder_fits.ensures
