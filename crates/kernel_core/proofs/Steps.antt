@@ -16,8 +16,8 @@ use Rattle.proof_tree.specs.declared.rule.Rule.{Rule}
 use Rattle.proof_tree.specs.Meaning.{meanings}
 use Rattle.proof_tree.specs.Stacks.{waiting}
 use Rattle.proof_tree.proofs.Stacked.{top}
-use Rattle.kernel_core.specs.Proofs.{IsProof}
-use Rattle.kernel_core.specs.Stacks.{IsReady, AreReady, Proves, TakesRule}
+use Rattle.logic_theory.specs.Proofs.{IsProof, Proves}
+use Rattle.kernel_core.specs.Stacks.{IsReady, AreReady, TakesRule}
 
 false_is_not : IsTrue false → ⊥
 false_is_not h = cc

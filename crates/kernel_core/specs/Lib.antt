@@ -1,3 +1,2 @@
-pub mod Proofs
 pub mod Sites
 pub mod Stacks

@@ -1,8 +1,8 @@
 -- Sequents that wait to be shown, trees for them, and what a rule makes of the first.
-use Rattle.std.specs.Prelude.{◌≡◌, ◌≤◌, ℕ, Bool, true, false, List, [], ◌++◌, length}
+use Rattle.std.specs.Prelude.{◌≡◌, ◌≤◌, ℕ, Bool, true, false, List, ◌++◌, length}
 use Rattle.fol_theory.specs.Contexts.{variables, Sequent}
 use Rattle.env_theory.specs.Declarations.{Declaration}
-use Rattle.logic_theory.specs.Rules.{Rule, leaf, step, leaves, children, Asks, Every, Follows, Formed}
+use Rattle.logic_theory.specs.Rules.{Rule, leaf, step, children, Asks, Every, Formed}
 
 -- a sequent is well formed, and has at most so many variables
 abbrev pub IsReady : List Declaration → ℕ → Sequent → Type 0
@@ -11,10 +11,6 @@ IsReady E n g = Formed E g × (length (variables g.context) ≤ n)
 -- each of the sequents is
 abbrev pub AreReady : List Declaration → ℕ → List Sequent → Type 0
 AreReady E n gs = Every (IsReady E n) gs
-
--- the rules are trees for the sequents, with no leaf
-abbrev pub Proves : List Declaration → List Rule → List Sequent → Type 0
-Proves E rs gs = Follows E rs gs × (leaves rs gs ≡ [])
 
 -- What a rule makes of a sequent and those behind it. True: what it asks is so, and its children stand before them; false: what it asks
 -- isn't so. An open leaf shows nothing.

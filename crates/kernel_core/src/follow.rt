@@ -6,9 +6,9 @@ ghost use Rattle.logic_theory.specs.Rules as theory;
 ghost use Rattle.proof_tree.specs.Meaning.{meaning, meanings};
 ghost use Rattle.proof_tree.specs.Places.{IndicesFit};
 ghost use Rattle.proof_tree.specs.Stacks.{waiting};
-ghost use Rattle.kernel_core.specs.Proofs.{IsProof};
+ghost use Rattle.logic_theory.specs.Proofs.{IsProof, Proves};
 ghost use Rattle.kernel_core.specs.Sites.{environment, sequent_at, AsksRule, IsReadyAt};
-ghost use Rattle.kernel_core.specs.Stacks.{AreReady, IsReady, Proves, TakesRule};
+ghost use Rattle.kernel_core.specs.Stacks.{AreReady, IsReady, TakesRule};
 
 use crate::rules::{
     all_e, all_i, and_e, and_i, conv, cut, drop_hypothesis, eq_e, eq_i, ex_e, ex_i, hyp, imp_e,

@@ -2,6 +2,7 @@
 use Rattle.std.proofs.Common.{◌≡◌, ℕ, suc, List, [], ◌∷◌, ◌++◌, map, length, append_assoc, append-nil, refl, sym, ap, subst, ◌∙◌, arith}
 use Rattle.fol_theory.specs.Contexts.{Entry, Sequent}
 use Rattle.env_theory.specs.Declarations.{Declaration}
+use Rattle.logic_theory.specs.Proofs.{Proves}
 use Rattle.logic_theory.specs.Rules.{Rule, leaf, step, seq, children, leaves, Every, Formed, Follows, Holds}
 use Rattle.logic_theory.specs.Grafts.{graft}
 use Rattle.fol_theory.specs.Slots.{Slot, entries, names}
@@ -56,6 +57,22 @@ goals_append E (step r ∷ ps) rs [] gs p = absurd p
 goals_append E (leaf ns ∷ ps) rs (h ∷ hs) gs p = ap (λ ls. goal (label ns h.context) h.goal ∷ ls) (goals_append E ps rs hs gs p.1)
 goals_append E (step r ∷ ps) rs (h ∷ hs) gs p = ap (goals (ps ++ rs)) (sym (append_assoc (children r h.context h.goal) hs gs)) ∙
     goals_append E ps rs (children r h.context h.goal ++ hs) gs p.1
+
+-- the same of leaves, where all are closed
+leaves_closed : (E : List Declaration) (ps rs : List Rule) (hs gs : List Sequent) → Follows E ps hs → leaves ps hs ≡ []
+    → leaves (ps ++ rs) (hs ++ gs) ≡ leaves rs gs
+leaves_closed E [] rs [] gs p e = refl
+leaves_closed E [] rs (h ∷ hs) gs p e = absurd p
+leaves_closed E (leaf ns ∷ ps) rs [] gs p e = absurd p
+leaves_closed E (step r ∷ ps) rs [] gs p e = absurd p
+leaves_closed E (leaf ns ∷ ps) rs (h ∷ hs) gs p e = absurd cc
+leaves_closed E (step r ∷ ps) rs (h ∷ hs) gs p e = ap (leaves (ps ++ rs)) (sym (append_assoc (children r h.context h.goal) hs gs)) ∙
+    leaves_closed E ps rs (children r h.context h.goal ++ hs) gs p.1 e
+
+-- proofs of some sequents and then of others
+pub proves_append : (E : List Declaration) (ps rs : List Rule) (hs gs : List Sequent) → Proves E ps hs → Proves E rs gs →
+    Proves E (ps ++ rs) (hs ++ gs)
+proves_append E ps rs hs gs p q = (follows_append E ps rs hs gs p.0 q.0, leaves_closed E ps rs hs gs p.0 p.1 ∙ q.1)
 
 -- ---- the part in the place of the first leaf: a tree again, whose goals are the part's and then the others
 

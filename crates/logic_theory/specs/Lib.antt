@@ -2,4 +2,5 @@ pub mod Derivations
 pub mod Goals
 pub mod Grafts
 pub mod Named
+pub mod Proofs
 pub mod Rules

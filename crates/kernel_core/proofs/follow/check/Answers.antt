@@ -2,7 +2,7 @@ use Rattle.std.proofs.Common.{rules, ◌≡◌, map, subst}
 use Rattle.term_core.specs.Context as context
 use Rattle.env_core.specs.Meaning.{declarations}
 use Rattle.proof_tree.specs.Meaning.{meanings}
-use Rattle.kernel_core.specs.Proofs.{IsProof}
+use Rattle.logic_theory.specs.Proofs.{IsProof}
 use Rattle.kernel_core.proofs.Steps.{proof_holds}
 use Rattle.kernel_core.proofs.follow.check.Goals as goal
 

@@ -3,7 +3,7 @@ use Rattle.std.proofs.lemmas.Grind.{common_steps}
 use Rattle.term_core.specs.Context.{meaning}
 use Rattle.env_core.specs.Meaning.{declarations}
 use Rattle.proof_tree.specs.Meaning.{meanings}
-use Rattle.kernel_core.specs.Stacks.{Proves}
+use Rattle.logic_theory.specs.Proofs.{Proves}
 use Rattle.kernel_core.proofs.Steps.{ended_behind}
 use Rattle.kernel_core.proofs.follow.follow.Goals as goal
 

@@ -3,7 +3,8 @@ use Rattle.term_core.specs.Context.{meaning}
 use Rattle.env_core.specs.Meaning.{declarations}
 use Rattle.proof_tree.specs.Meaning.{meanings}
 use Rattle.proof_tree.specs.Stacks.{waiting}
-use Rattle.kernel_core.specs.Stacks.{AreReady, Proves}
+use Rattle.logic_theory.specs.Proofs.{Proves}
+use Rattle.kernel_core.specs.Stacks.{AreReady}
 use Rattle.kernel_core.proofs.follow.follow.Given as goal
 
 abbrev pub invariant-loop-i : goal.invariant-loop-i
