@@ -3,8 +3,8 @@
 //! An `Env` is seen as the list of its declarations, the newest first, each of which is well formed over those
 //! before it; the words are those of env_theory. It keeps its declarations in layers that copies share, so that a
 //! `snapshot` takes as many counts as there are layers, and `find` looks a name up once in each. Nothing here reads
-//! a sentence or makes a normal form. `Tally` is what is
-//! counted of normal forms, `Sorts` the sorts that a name's arguments have.
+//! a sentence or makes a normal form. `Tally` is what is counted of normal forms, `Sorts` the sorts that a name's
+//! arguments have.
 #![tactic(auto)]
 
 mod declaration;

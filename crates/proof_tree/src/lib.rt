@@ -2,8 +2,9 @@
 //!
 //! A `Tree` is the list of its rules in preorder, and stands for the theory's list of rules, by `meanings` of specs/.
 //! It keeps its rules behind shared links, so that a copy is a count or two, and a part put in at the first leaf costs
-//! what it has itself. `goals` are the sequents of a tree's open leaves, with names. Nothing here knows an environment,
-//! or whether a rule may be used. The crates above use the contracts of `Tree` and `goals`.
+//! its own rules and, where it has no leaf, those up to the next one. `goals` are the sequents of a tree's open leaves,
+//! with names. Nothing here knows an environment, or whether a rule may be used. The crates above use the contracts of
+//! `Tree` and `goals`.
 #![tactic(auto)]
 
 mod chain;

@@ -45,11 +45,11 @@ impl Tree {
     pub fn from_rules(alloc: Global, rules: Vec<Rule>) -> Result<Tree, NoMemory>
         ensures { IfOk result (λ t. t ≡ rules.items) }
     {
-        let open = chain_of(alloc, rules)?;
-        settled(alloc, Chain::End, open)
+        let all = chain_of(alloc, rules)?;
+        settled(alloc, Chain::End, all)
     }
 
-    /// An equal tree, which shares the rules. It takes no memory and a constant time.
+    /// An equal tree, which shares the rules: a count or two.
     pub fn copy(&self) -> Result<Tree, NoMemory>
         ensures { IfOk result (λ t. t ≡ self.now) }
     {
@@ -79,8 +79,8 @@ impl Tree {
     {
         let rest = behind_first(&self.open)?;
         let closed = self.closed.copy()?.push_all(alloc, &part.closed)?;
-        let open = rest.push_all(alloc, &part.open)?;
-        *self = settled(alloc, closed, open)?;
+        let opened = rest.push_all(alloc, &part.open)?;
+        *self = settled(alloc, closed, opened)?;
         Ok(())
     }
 

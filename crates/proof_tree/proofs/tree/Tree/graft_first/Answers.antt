@@ -13,7 +13,7 @@ settled-requires c =
 pub returns-clause-ok : goal.returns-clause-ok
 returns-clause-ok c =
     let closed = c.in_ok-closed.ensures ∙ ap (λ z. linked c.part.inside.closed ++ z) c.in_ok-copy.ensures in
-    let open_part = c.in_ok-open.ensures in
+    let open_part = c.in_ok-opened.ensures in
     let whole = c.drop.view_is ∙ c.in_ok-self-inside.ensures ∙ (λ j. onto (closed j) (open_part j)) in
     let leaf = subst (λ z. HasLeaf (meanings z)) (sym c.self.view_is) c.requires.leaf in
     ap meanings whole
