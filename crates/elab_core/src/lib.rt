@@ -14,8 +14,6 @@ mod scope;
 mod sentence;
 mod shape;
 mod size;
-#[cfg(test)]
-mod tests;
 mod typing;
 
 pub use fault::ElabFault;
