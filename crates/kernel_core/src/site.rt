@@ -113,7 +113,7 @@ impl<'a> Site<'a> {
     pub(crate) fn has_hypothesis(&self, number: u64) -> Result<bool, NoMemory>
         ensures { IfOk result (λ r. IsTrue r ↔ ((a : theory_syntax.Formula) × IsHypothesis (context_at self.now) number a)) }
     {
-        Ok(number < self.place.context.count()?)
+        Ok(number < self.place.context.count())
     }
 
     /// The formula that is stated under a name, or None exactly where none is.

@@ -1,6 +1,6 @@
 //! Contexts and sequents.
-ghost use Rattle.std.specs.Prelude.{◌≡◌, ◌≤◌, [], ◌∷◌, ◌++◌, map, IfOk, IfSome, MatchOption};
-ghost use Rattle.fol_theory.specs.Contexts.{count, IsHypothesis};
+ghost use Rattle.std.specs.Prelude.{◌≡◌, ◌≤◌, [], ◌∷◌, ◌++◌, map, IfOk, IfSome, List, MatchOption};
+ghost use Rattle.fol_theory.specs.Contexts.{count, Entry, IsHypothesis};
 ghost use Rattle.fol_theory.specs.Slots.{entries, slots_without, from_name};
 ghost use Rattle.fol_theory.specs.Substitution.{shift};
 ghost use Rattle.term_core.specs.Context.{slot_meaning, slots, meaning, Stands};
@@ -9,6 +9,7 @@ ghost use Rattle.term_core.specs.Formula as formula;
 use crate::{Formula, Name};
 use base_core::NoMemory;
 use std::alloc::Global;
+use std::marker::Model;
 use std::sync::Arc;
 
 /// A variable or a hypothesis of a context. The formula of a hypothesis counts the variables of the older slots,
@@ -19,18 +20,46 @@ pub enum Slot {
     Hyp { name: Name, formula: Formula },
 }
 
-/// Slots, the newest first. What is pushed shares the older slots with every other holder. It may be as long as a
-/// document: walk over it by a loop (`newest`), for a call in a call takes stack for each slot.
-pub enum Context {
-    Empty,
-    Pushed(Arc<Layer<Context>>),
+/// A slot over the older ones, and how many hypotheses they are together.
+#[cycle(context)]
+#[derive(Drop)]
+pub struct Layer {
+    slot: Slot,
+    older: Context,
+    hypotheses: u64,
 }
 
-/// A slot over the older ones.
-#[derive(Drop)]
-pub struct Layer<C> {
-    slot: Slot,
-    older: C,
+impl Model for Layer {
+    ghost use Rattle.std.specs.Prelude.{◌≡◌, ◌∷◌, List, length};
+    ghost use Rattle.fol_theory.specs.Slots.{Slot};
+
+    ghost Value = { List Slot };
+
+    ghost use Rattle.term_core.specs.Codes.{coded_slots};
+
+    ghost coded = { coded_slots };
+
+    ghost use Rattle.fol_theory.specs.Contexts.{count};
+    ghost use Rattle.fol_theory.specs.Slots.{entries};
+    ghost use Rattle.term_core.specs.Slots.{slot_meaning, slots};
+
+    ghost view = { λ l. slot_meaning l.slot ∷ slots l.older };
+
+    ghost invariant = { λ l. l.hypotheses ≡ count (entries (slot_meaning l.slot ∷ slots l.older)) };
+
+    ghost size = { length };
+
+    ghost use Rattle.std.proofs.Common.{arith};
+
+    ghost size_decreases = { λ l h. Prim.grind arith };
+}
+
+/// Slots, the newest first. What is pushed shares the older slots with every other holder. It may be as long as a
+/// document: walk over it by a loop (`newest`), for a call in a call takes stack for each slot.
+#[cycle(context)]
+pub enum Context {
+    Empty,
+    Pushed(Arc<Layer>),
 }
 
 /// A goal in a context, whose variables it counts from the newest of all on.
@@ -47,7 +76,7 @@ impl Drop for Context {
             match self {
                 Context::Empty => return,
                 Context::Pushed(layer) => match Arc::into_inner(layer) {
-                    Some(Layer { slot, older }) => {
+                    Some(Layer { slot, older, .. }) => {
                         drop(slot);
                         self = older;
                     }
@@ -75,6 +104,16 @@ impl Slot {
         }
     }
 
+    /// How many hypotheses there are with it, where there are so many without it.
+    fn counted(&self, older: u64) -> Result<u64, NoMemory>
+        ensures { IfOk result (λ n. (c : List Entry) → older ≡ count c → n ≡ count ((slot_meaning self.now).entry ∷ c)) }
+    {
+        match self {
+            Slot::Var { .. } => Ok(older),
+            Slot::Hyp { .. } => older.checked_add(1).ok_or(NoMemory),
+        }
+    }
+
     /// Its name.
     pub fn name(&self) -> &Name
         ensures { result.now ≡ (slot_meaning self.now).name }
@@ -97,12 +136,18 @@ impl Context {
         }
     }
 
-    /// With one slot more, which is the newest.
+    /// With one slot more, which is the newest. `NoMemory` also where 64 bits don't hold the number of hypotheses.
     #[tactic(auto, using(crate::proofs::Layers::layers))]
     pub fn push(self, alloc: Global, slot: Slot) -> Result<Context, NoMemory>
         ensures { IfOk result (λ c. slots c ≡ slot_meaning slot ∷ slots self) }
     {
-        Ok(Context::Pushed(Arc::new(alloc, Layer { slot, older: self })?))
+        let hypotheses = slot.counted(self.count())?;
+        let layer = Layer {
+            slot,
+            older: self,
+            hypotheses,
+        };
+        Ok(Context::Pushed(Arc::new(alloc, layer)?))
     }
 
     /// The newest slot, and the older ones; None where there is no slot.
@@ -132,32 +177,27 @@ impl Context {
         None
     }
 
-    /// How many hypotheses there are. `NoMemory` comes only where 64 bits don't hold the number.
+    /// How many hypotheses there are. It is kept with each slot, and nothing is gone through.
     #[tactic(auto, using(crate::proofs::Layers::layers))]
-    pub fn count(&self) -> Result<u64, NoMemory>
-        ensures { IfOk result (λ n. n ≡ count (entries (slots self.now))) }
+    pub fn count(&self) -> u64
+        ensures { result ≡ count (entries (slots self.now)) }
     {
-        let mut n: u64 = 0;
-        let mut at = self;
-        while let Context::Pushed(layer) = at {
-            if let Slot::Hyp { .. } = &layer.slot {
-                n = n.checked_add(1).ok_or(NoMemory)?;
-            }
-            at = &layer.older;
+        match self {
+            Context::Empty => 0,
+            Context::Pushed(layer) => layer.hypotheses,
         }
-        Ok(n)
     }
 
     /// The hypothesis with this number, counted from the oldest, from 0, as it stands in its slot, and the number of
     /// variables that are newer: it is to be shifted by them where it is used. None where there is no such number.
-    /// `NoMemory` comes only where 64 bits don't hold a count.
+    /// `NoMemory` comes only where 64 bits don't hold the number of variables. Only the newer slots are gone through.
     #[tactic(auto, using(crate::proofs::Layers::layers))]
     pub fn hypothesis(&self, number: u64) -> Result<Option<(&Formula, u64)>, NoMemory>
         ensures numbered { IfOk result (λ r. MatchOption r (count (entries (slots self.now)) ≤ number)
             (λ p. IsHypothesis (entries (slots self.now)) number (shift 0 p.1 (formula.meaning p.0.now)))) }
         ensures placed { IfOk result (λ r. IfSome r (λ p. Stands (entries (slots self.now)) number (formula.meaning p.0.now) p.1)) }
     {
-        let mut left = self.count()?;
+        let mut left = self.count();
         if left <= number {
             return Ok(None);
         }
@@ -184,7 +224,7 @@ impl Context {
     pub fn without(&self, alloc: Global, number: u64) -> Result<Context, NoMemory>
         ensures { IfOk result (λ c. slots c ≡ slots_without (slots self.now) number) }
     {
-        let mut left = self.count()?;
+        let mut left = self.count();
         let mut newer: Vec<&Slot> = Vec::new(alloc);
         let mut at = self;
         while let Context::Pushed(layer) = at {

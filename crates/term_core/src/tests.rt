@@ -542,7 +542,7 @@ fn is_long_served(alloc: Global) -> Result<bool, NoMemory> {
     let copy = long.copy()?;
     drop(long);
     let rest = copy.without(alloc, 0)?;
-    Ok(copy.count()? == 1_000_001 && copy.hypothesis(0)?.is_some() && rest.count()? == 1_000_000)
+    Ok(copy.count() == 1_000_001 && copy.hypothesis(0)?.is_some() && rest.count() == 1_000_000)
 }
 
 #[test]

@@ -15,11 +15,11 @@ loop-at-init c =
 
 pub loop-at-preserved : goal.loop-at-preserved
 loop-at-preserved c =
-    let x = slot_meaning c.deref.result.now.slot in
+    let x = slot_meaning c.behind-layer.inside.slot in
     let e = entries (slots c.loop-at.at.now) in
-    let d = entries (slots c.deref-in-Pushed.result.now.older) in
+    let d = entries (slots c.behind-layer-in-Pushed.inside.older) in
     let all = entries (slots c.args.self.now) in
-    let parts : slots c.loop-at.at.now ≡ x ∷ slots c.deref-in-Pushed.result.now.older = search (rules, layers) in
+    let parts : slots c.loop-at.at.now ≡ x ∷ slots c.behind-layer-in-Pushed.inside.older = search (rules, layers) in
     elim c.match-deref.branch [
       | in-Var+in_ok-newer-in-Var w ↦
           let split : e ≡ variable w.in-Var.sort ∷ d = ap entries parts ∙ ap (λ s. (slot_meaning s).entry ∷ d) w.in-Var.is in
