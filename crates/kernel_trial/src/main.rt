@@ -7,6 +7,7 @@
 //! cost no proof. No program above uses this crate.
 #![tactic(auto)]
 
+mod evidence;
 mod forms;
 mod rows;
 mod rules;

@@ -8,6 +8,7 @@ ghost use Rattle.logic_theory.specs.Rules.{Formed, FormedContext};
 ghost use Rattle.vern_step.specs.Parsed.{kind_in};
 ghost use Rattle.vern_step.specs.declared.kind.Kind.TheVariants.{Plain};
 
+use crate::evidence::read_out;
 use crate::forms::compared;
 use crate::rules::push_rule;
 use crate::spell::{Unread, formula_at, formula_of};
@@ -38,6 +39,10 @@ pub enum Told {
     TooLarge,
     Same,
     Different,
+    States,
+    Fault,
+    OtherFault,
+    NoFault,
     IllFormed,
     Misspelled,
     NoMemory,
@@ -57,6 +62,10 @@ impl Told {
             Told::TooLarge => b"too large",
             Told::Same => b"the same",
             Told::Different => b"different",
+            Told::States => b"states it",
+            Told::Fault => b"this fault",
+            Told::OtherFault => b"another fault",
+            Told::NoFault => b"no fault",
             Told::IllFormed => b"ill formed",
             Told::Misspelled => b"misspelled",
             Told::NoMemory => b"out of memory",
@@ -144,13 +153,17 @@ fn checked(alloc: Global, env: &Env, row: &[u8]) -> Told {
     }
 }
 
-/// The same of the value: a context, a goal, and a list of rules; or what `compared` reads, which begins with an atom.
+/// The same of the value: a context, a goal, and a list of rules; or what `read_out` or `compared` reads, which begins
+/// with an atom.
 fn checked_value(alloc: Global, env: &Env, value: &Sexp) -> Result<Told, Unread> {
     let Sexp::List(parts) = value else {
         return Err(Unread::Misspelled);
     };
-    if let Some(Sexp::Atom(_)) = parts.first() {
-        return compared(alloc, env, parts.as_slice());
+    if let Some(Sexp::Atom(word)) = parts.first() {
+        return match word.as_slice() {
+            b"shows" | b"refuses" | b"states" => read_out(alloc, env, parts.as_slice()),
+            _ => compared(alloc, env, parts.as_slice()),
+        };
     }
     if parts.len() != 3 {
         return Err(Unread::Misspelled);

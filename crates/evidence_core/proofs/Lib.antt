@@ -1,0 +1,13 @@
+pub mod Results
+pub mod Heads
+pub mod Formed
+pub mod Premises
+pub mod Proved
+pub mod Steps
+pub mod Looked
+pub mod Answered
+pub mod Refused
+pub mod Arguments
+pub mod Variants
+pub mod Starting
+pub mod Whole
