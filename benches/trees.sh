@@ -32,8 +32,8 @@ def seconds(row):
 
 def measured(words, entries, goal, rules, count):
     context = "(" + "(hyp Q)" * entries + ")"
-    best, told = min(seconds(f"({context}{goal}({rules}))") for _ in range(3))
-    idle, refused = min(seconds(f"({context}{goal}((FalseE)(TrueI){rules}))") for _ in range(3))
+    best, told = min(seconds(f"({context} {goal} ({rules}))") for _ in range(3))
+    idle, refused = min(seconds(f"({context} {goal} ((FalseE)(TrueI){rules}))") for _ in range(3))
     assert (told, refused) == ("proof", "no proof"), (told, refused)
     print(f"{entries} hypotheses, {count} rules, {words}: {best - idle:.3f} s, {(best - idle) / count * 1e9:.0f} ns a rule", flush=True)
 
