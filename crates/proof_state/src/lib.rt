@@ -20,4 +20,4 @@ mod tests;
 pub use bullet::Bullet;
 pub use fault::BulletFault;
 pub use sequents::{Item, Sequents};
-pub use state::State;
+pub use state::{State, names_of};

@@ -185,8 +185,8 @@ fn left_open(alloc: Global, context: &Context) -> Result<Tree, NoMemory>
     Tree::from_rules(alloc, rules)
 }
 
-/// The names of the entries, from the oldest on.
-fn names_of(alloc: Global, context: &Context) -> Result<Names, NoMemory>
+/// The names of the entries, from the oldest on, as an open leaf has them.
+pub fn names_of(alloc: Global, context: &Context) -> Result<Names, NoMemory>
     ensures { IfOk result (λ ns. ns.items ≡ reverse (names (slots context.now))) }
 {
     let mut list = Vec::new(alloc);

@@ -9,6 +9,7 @@ ghost use Rattle.term_core.specs.Formula.{meaning};
 ghost use Rattle.tac_base.specs.Openings.{drafted, made, opening, with_formula, with_goal, with_rule};
 
 use base_core::NoMemory;
+use proof_state::names_of;
 use proof_tree::{Rule, Tree};
 use std::alloc::Global;
 use term_core::{Context, Formula, Name, Names};
@@ -104,20 +105,6 @@ fn leaf(alloc: Global, context: &Context, newer: &[&Name]) -> Result<Rule, NoMem
     let mut all = names_of(alloc, context)?;
     push_copies(&mut all, newer)?;
     Ok(Rule::Leaf(all))
-}
-
-/// The names of the entries, from the oldest on.
-fn names_of(alloc: Global, context: &Context) -> Result<Names, NoMemory>
-    ensures { IfOk result (λ ns. ns.items ≡ reverse (names (slots context.now))) }
-{
-    let mut list = Vec::new(alloc);
-    let mut at = context;
-    while let Some((slot, older)) = at.newest() {
-        list.push(slot.name().copy()?)?;
-        at = older;
-    }
-    list.reverse();
-    Ok(list)
 }
 
 /// Copies of names, behind others.
