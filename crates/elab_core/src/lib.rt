@@ -16,6 +16,8 @@ mod shape;
 mod size;
 mod typing;
 
+pub use check::span_of_tree;
 pub use fault::ElabFault;
+pub use scope::name_of;
 pub use sentence::{declaration, definition, statement};
 pub use typing::{formula, term};

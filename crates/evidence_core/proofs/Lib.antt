@@ -8,6 +8,5 @@ pub mod Looked
 pub mod Answered
 pub mod Refused
 pub mod Arguments
-pub mod Variants
 pub mod Starting
 pub mod Whole

@@ -13,7 +13,7 @@ use Rattle.elab_theory.specs.Locals.{local_of, locals_in, Known, bound, assumed,
 use Rattle.tactic_theory.specs.Names.{number_of, hypothesis_named, hypothesis_at}
 
 -- the test on names, with the sides exchanged
-name_turned : (m n : List ℕ) → is_name m n ≡ is_name n m
+pub name_turned : (m n : List ℕ) → is_name m n ≡ is_name n m
 name_turned m n = go (is_name m n) (is_name n m) (bytes_decides m n) (bytes_decides n m)
   where
     go : (q r : Bool) → Decides q (m ≡ n) → Decides r (n ≡ m) → q ≡ r

@@ -20,9 +20,8 @@ ghost use Rattle.evidence_core.specs.Showings.{applied, begun, Comes};
 use crate::draft::Draft;
 use crate::place::Place;
 use crate::start::begin;
-use elab_core::{ElabFault, term};
+use elab_core::{ElabFault, span_of_tree, term};
 use term_core::{Formula, Name, Term};
-use vern_lex::Span;
 use vern_parse::{RawExpr, RawName};
 
 /// What an expression shows as evidence.
@@ -155,19 +154,5 @@ fn term_of_sort(y: &RawExpr, place: &Place<'_>, sort: &Name) -> Result<Term, Ela
         Ok(t)
     } else {
         Err(ElabFault::WrongSort(span_of_tree(y)))
-    }
-}
-
-/// Where an expression stands.
-#[tactic(auto, using(crate::proofs::Variants::trees))]
-fn span_of_tree(a: &RawExpr) -> Span
-    ensures { result ≡ span_of (expression a.now) }
-{
-    match a {
-        RawExpr::True(span) | RawExpr::False(span) => *span,
-        RawExpr::App(_, _, span) => *span,
-        RawExpr::Binary(_, _, _, span) => *span,
-        RawExpr::Not(_, span) => *span,
-        RawExpr::Quant(_, _, _, span) => *span,
     }
 }

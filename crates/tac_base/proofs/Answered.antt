@@ -43,7 +43,7 @@ refuses_typing f g (typing.TooLarge n m) w v k h = h
 refuses_typing f g typing.NoMemory w v k h = h
 
 -- what has the same faults refuses with the same ones
-refuses_with : {X Y F G : Type 0} (f : Fault → F) (g : Fault → G) (e : TacFault) (w : Result X F) (v : Result Y G)
+pub refuses_with : {X Y F G : Type 0} (f : Fault → F) (g : Fault → G) (e : TacFault) (w : Result X F) (v : Result Y G)
     → ((z : Fault) → w ≡ Err (f z) → v ≡ Err (g z)) → Refuses f e w → Refuses g e v
 refuses_with f g NoGoal w v k h = k _ h
 refuses_with f g NoSuchHyp w v k h = k _ h

@@ -1,22 +1,12 @@
 -- Names that are taken, and names that are fresh.
-use Rattle.std.proofs.Common.{◌≡◌, ℕ, zero, suc, ◌+◌, ◌^◌, ◌<◌, ◌≤◌, Bool, true, false, ◌||◌, if◌then◌else◌, List, [], ◌∷◌, ◌++◌, map, length, decimal, Some, None, is_some, Decides, ◌⊎◌, inl, inr, refl, sym, ap, ◌∙◌, true≢false, arith}
+use Rattle.std.proofs.Common.{◌≡◌, ℕ, zero, suc, ◌+◌, ◌^◌, ◌<◌, ◌≤◌, Bool, true, false, ◌||◌, if◌then◌else◌, List, [], ◌∷◌, ◌++◌, map, length, decimal, Some, None, is_some, ◌⊎◌, inl, inr, refl, sym, ap, ◌∙◌, true≢false, arith}
 use Rattle.std.proofs.lemmas.Bool.{cases_lt}
-use Rattle.std.specs.Cmp.Lexicographic.{bytes_decides}
 use Rattle.fol_theory.specs.Syntax.{is_name}
 use Rattle.fol_theory.specs.Slots.{Slot, names, from_name}
 use Rattle.env_theory.specs.Declarations.{Declaration, name_of, find}
 use Rattle.tactic_theory.specs.Names.{is_among, is_taken, numbered, fresh, number_of, hypothesis_named}
 use Rattle.tactic_theory.proofs.Fresh.{fresh_free}
-
--- the test on names, with the sides exchanged
-name_turned : (m n : List ℕ) → is_name m n ≡ is_name n m
-name_turned m n = go (is_name m n) (is_name n m) (bytes_decides m n) (bytes_decides n m)
-  where
-    go : (q r : Bool) → Decides q (m ≡ n) → Decides r (n ≡ m) → q ≡ r
-    go true true d e = refl
-    go false false d e = refl
-    go true false d e = sym (e.1 (sym (d.0 refl)))
-    go false true d e = d.1 (sym (e.0 refl))
+use Rattle.evidence_core.proofs.Looked.{name_turned}
 
 -- ---- the newest slot of a name
 

@@ -19,7 +19,7 @@ mod top;
 
 pub use argument::{are_same, given, is_same};
 pub use fault::TacFault;
-pub use names::{fresh, hypothesis_named, is_taken, name_of};
+pub use names::{fresh, hypothesis_named, is_taken};
 pub use opening::{Draft, Opening};
 pub use refine::{refine_by, refine_with};
 pub use site::Site;

@@ -9,14 +9,6 @@ use env_core::Env;
 use itoa::Buffer;
 use std::alloc::Global;
 use term_core::{Context, Name, Slot};
-use vern_parse::RawName;
-
-/// The name that stands in a sentence, which shares the bytes.
-pub fn name_of(x: &RawName) -> Result<Name, NoMemory>
-    ensures { IfOk result (λ n. n ≡ x.now.text) }
-{
-    Ok(Name::from_shared(x.text.share()?))
-}
 
 /// Whether the context has the name or the environment declares it.
 #[tactic(auto, using(crate::proofs::Taken::taking))]

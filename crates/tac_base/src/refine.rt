@@ -2,16 +2,14 @@
 ghost use Rattle.std.specs.Prelude.{◌≡◌, [], ◌∷◌, List, IfOk};
 ghost use Rattle.logic_theory.specs.Goals.{Goal, sequent};
 ghost use Rattle.logic_theory.specs.Rules.{Follows};
-ghost use Rattle.base_core.specs.Answers.{and_then};
 ghost use Rattle.vern_sentence.specs.Trees.{Refinement as Sentence};
-ghost use Rattle.tactic_theory.specs.Refinements.{Part, row};
-ghost use Rattle.tactic_theory.specs.Typing.{typed};
-ghost use Rattle.tac_base.specs.Steps.{KeepsFit, Refines};
+ghost use Rattle.tactic_theory.specs.Refinements.{Part};
+ghost use Rattle.tac_base.specs.Steps.{KeepsFit, Makes, Refines};
 ghost use Rattle.tactic_theory.specs.States as theory;
 ghost use Rattle.proof_tree.specs.Meaning.{meanings};
 ghost use Rattle.proof_state.specs.States.{state_of, refined, Fits};
 ghost use Rattle.tac_base.specs.Faults.{Gives};
-ghost use Rattle.tac_base.specs.Openings.{left_by, opening as made_by, Answers, Opens};
+ghost use Rattle.tac_base.specs.Openings.{left_by, opening as made_by, Opens};
 ghost use Rattle.tac_base.specs.Sites.{env_of, goal_at, IsReady};
 
 use crate::fault::TacFault;
@@ -51,10 +49,8 @@ pub fn refine_by(
 ) -> Result<State, TacFault>
     requires ready { IsReady site.now }
     requires first { (gs : List Goal) × ((state_of state.now).focused ≡ goal_at site.now ∷ gs) }
-    requires answers { (x : Sentence) × Answers (env_of site.now) (goal_at site.now) made
-        (and_then (typed (env_of site.now) (goal_at site.now) x) (row (env_of site.now) (goal_at site.now).slots (goal_at site.now).shown)) }
-    ensures state { (x : Sentence) → Answers (env_of site.now) (goal_at site.now) made
-        (and_then (typed (env_of site.now) (goal_at site.now) x) (row (env_of site.now) (goal_at site.now).slots (goal_at site.now).shown))
+    requires answers { (x : Sentence) × Makes (env_of site.now) (goal_at site.now) x made }
+    ensures state { (x : Sentence) → Makes (env_of site.now) (goal_at site.now) x made
         → Refines (env_of site.now) (goal_at site.now) state.now x result }
     ensures fits { KeepsFit (env_of site.now) state.now result }
 {
