@@ -1,0 +1,9 @@
+pub mod Heads
+pub mod Sized
+pub mod Stripping
+pub mod Found
+pub mod Premises
+pub mod Settled
+pub mod Descents
+pub mod Fitted
+pub mod Taken

@@ -1,0 +1,4 @@
+pub mod Meaning
+pub mod Drafts
+pub mod Trees
+pub mod Descents

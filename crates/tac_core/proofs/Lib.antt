@@ -1,0 +1,10 @@
+pub mod Forms
+pub mod Introductions
+pub mod Asserts
+pub mod Walks
+pub mod Running
+pub mod Applied
+pub mod Exacts
+pub mod Destructs
+pub mod Trees
+pub mod Passed

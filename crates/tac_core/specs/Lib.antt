@@ -1,0 +1,4 @@
+pub mod Own
+pub mod Introduced
+pub mod Exacts
+pub mod Destructs

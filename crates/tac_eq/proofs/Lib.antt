@@ -1,0 +1,14 @@
+pub mod Expanded
+pub mod Bodied
+pub mod Arguments
+pub mod Mentioned
+pub mod Unfolded
+pub mod Unfolds
+pub mod Defined
+pub mod Equations
+pub mod Own
+pub mod Shown
+pub mod Sorted
+pub mod Marked
+pub mod Rewritten
+pub mod Equated

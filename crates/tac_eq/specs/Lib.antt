@@ -1,0 +1,4 @@
+pub mod Own
+pub mod Over
+pub mod Bodies
+pub mod Rewriting
