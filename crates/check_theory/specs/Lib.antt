@@ -1,0 +1,5 @@
+pub mod Texts
+pub mod Pieces
+pub mod Language
+pub mod Read
+pub mod Proved
