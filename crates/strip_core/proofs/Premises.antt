@@ -31,13 +31,13 @@ use Rattle.std.specs.declared.sync.Arc.{Arc}
 use Rattle.std.proofs.lemmas.List.{reverse-append, length_push, length-append, length-reverse, length-map, map_push, get_or-map}
 use Rattle.std.proofs.lemmas.List.Elements.{All-head, All-tail, All-get_or}
 use Rattle.fol_theory.specs.Syntax as theory
-use Rattle.fol_theory.specs.Syntax.{truth, falsity, pred, equal, both, either, implies, all, ex}
+use Rattle.fol_theory.specs.Syntax.{equal, implies, all}
 use Rattle.fol_theory.specs.Substitution.{shift, under}
 use Rattle.fol_theory.specs.Printing.{unnamed}
 use Rattle.fol_theory.proofs.AtIndex.{shift_none, under_shift}
 use Rattle.env_theory.specs.Declarations.{Declaration}
 use Rattle.env_theory.specs.Typing.{WellFormed}
-use Rattle.tactic_theory.specs.Strips.{Strip, strip, strip_form, is_equation}
+use Rattle.tactic_theory.specs.Strips.{Strip, strip, strip_form}
 use Rattle.term_core.specs.Formula.{meaning}
 use Rattle.term_core.specs.declared.formula.Formula.{Formula}
 use Rattle.term_core.specs.declared.formula.Formula.TheVariants as made

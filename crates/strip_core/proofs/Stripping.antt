@@ -1,8 +1,8 @@
 -- One strip more: it takes a node off the normal form, and what is left stays well formed.
-use Rattle.std.proofs.Common.{◌≡◌, ◌<◌, ◌≤◌, ◌+◌, ℕ, List, ◌∷◌, ◌++◌, [], length, map, Option, Some, None, refl, sym, ap, subst, ◌∙◌, arith}
+use Rattle.std.proofs.Common.{◌≡◌, ◌<◌, ◌≤◌, ◌+◌, ℕ, List, ◌∷◌, ◌++◌, [], length, map, Some, refl, sym, ap, subst, ◌∙◌, arith}
 use Rattle.std.specs.List.{All}
 use Rattle.std.proofs.lemmas.List.Elements.{All-nil, All-weaker, All-map, All-push}
-use Rattle.fol_theory.specs.Syntax.{Formula, truth, falsity, pred, equal, both, either, implies, all, ex}
+use Rattle.fol_theory.specs.Syntax.{Formula, implies, all}
 use Rattle.fol_theory.specs.Substitution.{next, under}
 use Rattle.fol_theory.specs.Measures.{nodes}
 use Rattle.env_theory.specs.Declarations.{Declaration}

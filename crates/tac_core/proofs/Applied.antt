@@ -1,5 +1,5 @@
 -- Evidence applied: the tree that it makes.
-use Rattle.std.proofs.Common.{◌≡◌, ℕ, suc, ◌+◌, ◌<◌, Bool, true, false, ◌&&◌, List, [], ◌++◌, length, Some, Ok, Err, Result, refl, sym, ap, subst, ◌∙◌, true≢false, arith}
+use Rattle.std.proofs.Common.{◌≡◌, ℕ, ◌+◌, true, ◌&&◌, List, [], ◌++◌, length, Some, Ok, Err, Result, sym, subst}
 use Rattle.fol_theory.specs.Syntax.{Term, Formula, all, implies}
 use Rattle.fol_theory.specs.Contexts.{variables}
 use Rattle.fol_theory.specs.Slots.{Slot, entries, names}
@@ -10,7 +10,6 @@ use Rattle.logic_theory.specs.Goals.{Goal}
 use Rattle.logic_theory.specs.Rules.{Rule, Every}
 use Rattle.logic_theory.proofs.Trees.{every_join}
 use Rattle.match_theory.specs.Places.{all_below, occurs}
-use Rattle.match_theory.proofs.Occurring.{below_all}
 use Rattle.tactic_theory.specs.Evidence.{Evidence, assumed, declared, with_term, with_proof, shows, is_met}
 use Rattle.tactic_theory.specs.Faults.{Fault}
 use Rattle.tactic_theory.specs.Refinements.{Part, if_met, premise_parts, apply_found}

@@ -1,7 +1,7 @@
 -- What is asserted, and what is cleared.
-use Rattle.std.proofs.Common.{◌≡◌, ℕ, suc, ◌<◌, true, false, List, [], ◌∷◌, ◌++◌, Some, Ok, Err, refl, sym, ap, subst, ◌∙◌, if◌then◌else◌}
+use Rattle.std.proofs.Common.{◌≡◌, ℕ, suc, ◌<◌, true, false, List, [], ◌∷◌, Some, Ok, Err, refl, ap, subst, ◌∙◌, if◌then◌else◌}
 use Rattle.fol_theory.specs.Syntax.{Formula}
-use Rattle.fol_theory.specs.Contexts.{hypothesis, variables, count, without}
+use Rattle.fol_theory.specs.Contexts.{hypothesis, variables, count}
 use Rattle.fol_theory.specs.Slots.{Slot, slot, entries, names, slots_without}
 use Rattle.fol_theory.proofs.Numbers.{hypothesis_there}
 use Rattle.fol_theory.proofs.Slots.{entries_without}
@@ -13,7 +13,7 @@ use Rattle.logic_theory.proofs.Grafting.{label_names, names_entries}
 use Rattle.match_theory.specs.Places.{or_else}
 use Rattle.tactic_theory.specs.Faults.{name_taken, too_large}
 use Rattle.tactic_theory.specs.Names.{is_taken}
-use Rattle.tactic_theory.specs.Refinements.{part, assert, row, first_large, limited, clear_row}
+use Rattle.tactic_theory.specs.Refinements.{part, assert, row, first_large, limited}
 use Rattle.script_theory.specs.Sizes.{large}
 use Rattle.tac_base.specs.Openings.{made, measured, Opens}
 

@@ -3,7 +3,7 @@ use Rattle.std.proofs.Common.{◌≡◌, ℕ, ◌+◌, ◌<◌, ◌≤◌, lengt
 use Rattle.base_core.specs.Answers.{and_then}
 use Rattle.fol_theory.specs.Syntax.{Formula, falsity, both, either, ex, is_name}
 use Rattle.fol_theory.specs.Substitution.{next, shift, under}
-use Rattle.fol_theory.specs.Contexts.{Entry, variable, hypothesis, variables, count, Sequent}
+use Rattle.fol_theory.specs.Contexts.{variable, hypothesis, variables, count}
 use Rattle.fol_theory.specs.Slots.{Slot, slot, entries, names}
 use Rattle.fol_theory.proofs.Numbers.{hypothesis_below}
 use Rattle.env_theory.specs.Declarations.{Declaration, name_of}
@@ -12,12 +12,12 @@ use Rattle.env_theory.specs.Normal.{Same}
 use Rattle.env_theory.specs.Typing.{WellFormed}
 use Rattle.env_theory.proofs.Lawfuls.{head_formed}
 use Rattle.env_theory.proofs.Sorts.{replace_formed, fits_next}
-use Rattle.logic_theory.specs.Goals.{Goal, goal, sequent}
+use Rattle.logic_theory.specs.Goals.{Goal, goal}
 use Rattle.logic_theory.specs.Proofs.{IsProof}
-use Rattle.logic_theory.specs.Rules.{Rule, step, and_e, or_e, ex_e, false_e, plain, seq}
+use Rattle.logic_theory.specs.Rules.{Rule, and_e, or_e, ex_e, false_e, plain, seq}
 use Rattle.tactic_theory.specs.Faults.{Fault, name_taken}
 use Rattle.tactic_theory.specs.Names.{is_among, is_taken, hypothesis_at}
-use Rattle.tactic_theory.specs.Evidence.{Evidence, assumed, declared, with_term, with_proof, known, shows, is_met}
+use Rattle.tactic_theory.specs.Evidence.{Evidence, assumed, declared, with_term, with_proof, known, shows}
 use Rattle.tactic_theory.specs.Refinements.{Part, part, kept_of, if_met, pair_form, cases_form, falsity_form}
 use Rattle.tactic_theory.proofs.Found.{hypothesis_at_is}
 use Rattle.tactic_theory.proofs.Named.{same_ex_named}
@@ -25,20 +25,20 @@ use Rattle.term_core.specs.Formula.{meaning}
 use Rattle.proof_tree.specs.Meaning.{meanings}
 use Rattle.proof_tree.proofs.Indices.{shift_once}
 use Rattle.evidence_core.specs.declared.shown.Evidence.{Evidence as Read}
-use Rattle.evidence_core.specs.Meaning.{pairs, showing}
+use Rattle.evidence_core.specs.Meaning.{pairs}
 use Rattle.evidence_core.specs.Pairs.{AreSame}
-use Rattle.evidence_core.specs.Showings.{bare, Comes}
+use Rattle.evidence_core.specs.Showings.{bare}
 use Rattle.evidence_core.proofs.Heads.{head_same}
 use Rattle.tac_base.specs.declared.opening.Opening.{Opening}
 use Rattle.tac_base.specs.declared.fault.TacFault.{TacFault}
 use Rattle.tac_base.specs.Faults.{Refuses}
 use Rattle.tac_base.specs.Given.{IsGiven}
-use Rattle.tac_base.specs.Openings.{Made, made, opening, measured, Opens, Answers}
+use Rattle.tac_base.specs.Openings.{Made, opening, measured, Opens, Answers}
 use Rattle.tac_base.specs.Sites.{IsSite}
 use Rattle.tac_base.proofs.Answered.{refuses_then}
 use Rattle.tac_core.specs.Exacts.{nothing_if, TellsSame}
-use Rattle.tac_core.specs.Destructs.{left_of, branch, cases_fit, pair_fits, IsTakenApart, falsity_made, pair_made, witness_made, cases_made}
-use Rattle.tac_core.proofs.Trees.{Trees, by_rule, joined, by_proof, kept_leads, IsThere}
+use Rattle.tac_core.specs.Destructs.{left_of, cases_fit, pair_fits, IsTakenApart, falsity_made, pair_made, witness_made, cases_made}
+use Rattle.tac_core.proofs.Trees.{by_rule, joined, by_proof, kept_leads, IsThere}
 
 -- ---- the tests
 

@@ -1,5 +1,5 @@
 -- What leaves nothing open.
-use Rattle.std.proofs.Common.{◌≡◌, ◌↔◌, ℕ, Bool, true, false, ◌&&◌, List, [], ◌∷◌, Result, Ok, Err, refl, sym, ap, subst, ◌∙◌}
+use Rattle.std.proofs.Common.{◌≡◌, ℕ, Bool, true, false, ◌&&◌, List, [], ◌∷◌, Result, Ok, Err, refl, sym, ap, subst, ◌∙◌}
 use Rattle.base_core.specs.Answers.{and_then}
 use Rattle.fol_theory.specs.Syntax.{Formula}
 use Rattle.fol_theory.specs.Contexts.{hypotheses, IsHypothesis}
@@ -10,14 +10,12 @@ use Rattle.logic_theory.specs.Goals.{Goal, sequent}
 use Rattle.logic_theory.specs.Proofs.{IsProof}
 use Rattle.logic_theory.specs.Rules.{Rule, step, hyp}
 use Rattle.tactic_theory.specs.Faults.{Fault, cannot_match}
-use Rattle.tactic_theory.specs.Evidence.{Evidence, is_met, is_same, shows}
+use Rattle.tactic_theory.specs.Evidence.{Evidence, is_met, is_same}
 use Rattle.tactic_theory.specs.Refinements.{Part, Refinement, exact, if_met, row, has_same}
 use Rattle.tactic_theory.proofs.Found.{is_same_decides}
 use Rattle.term_core.specs.Formula.{meaning}
 use Rattle.proof_tree.specs.Meaning.{meanings}
 use Rattle.evidence_core.specs.declared.shown.Evidence.{Evidence as Read}
-use Rattle.evidence_core.specs.Meaning.{showing}
-use Rattle.evidence_core.specs.Showings.{Comes}
 use Rattle.tac_base.specs.declared.opening.Opening.{Opening}
 use Rattle.tac_base.specs.declared.fault.TacFault.{TacFault}
 use Rattle.tac_base.specs.Faults.{Refuses}

@@ -1,5 +1,5 @@
 -- The rows that look at the goal's form.
-use Rattle.std.proofs.Common.{◌≡◌, ℕ, Bool, true, false, List, [], ◌∷◌, Ok, Err, Decides, refl, sym, ap, subst, ◌∙◌, if◌then◌else◌}
+use Rattle.std.proofs.Common.{◌≡◌, ℕ, Bool, true, false, List, [], ◌∷◌, Ok, Err, Decides, refl, sym, subst, ◌∙◌, if◌then◌else◌}
 use Rattle.std.specs.Cmp.Lexicographic.{bytes_decides}
 use Rattle.fol_theory.specs.Syntax.{Term, Formula, truth, falsity, both, either, ex, is_name}
 use Rattle.fol_theory.specs.Substitution.{instantiate}

@@ -13,7 +13,6 @@ use Rattle.tactic_theory.specs.Evidence.{Evidence}
 use Rattle.tactic_theory.specs.Refinements.{cases_form, falsity_form, pair_form}
 use Rattle.term_core.specs.Context.{slots}
 use Rattle.term_core.specs.Formula.{meaning}
-use Rattle.proof_tree.specs.Meaning.{meanings}
 use Rattle.evidence_core.specs.declared.shown.Evidence.{Evidence as Read}
 use Rattle.tac_base.specs.Given.{IsGiven}
 use Rattle.tac_base.specs.Openings.{Made, made, Answers}

@@ -1,5 +1,4 @@
 use Rattle.vern_parse.specs.Meaning.{expression}
-use Rattle.term_core.specs.Term.{meaning as term_meaning}
 use Rattle.tac_base.specs.Sites.{env_of, goal_at}
 use Rattle.tac_core.proofs.Forms.{term_sorted}
 use Rattle.tac_core.proofs.form.exists.Goals as goal
