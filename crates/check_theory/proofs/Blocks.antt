@@ -15,13 +15,14 @@ use Rattle.doc_theory.specs.Checks.{good, Checked, Judged, judged_from, judged}
 use Rattle.check_theory.specs.Pieces.{place_in_proofs}
 use Rattle.check_theory.specs.Language.{tree_of, told, language}
 use Rattle.check_theory.specs.Read.{IsRead, AreRead, DocumentRead, with_tree, trees}
-use Rattle.check_theory.specs.Proved.{AreParsed, Finishes, state_from, state_at, IsProvedLemma, EndsInProof}
+use Rattle.step_theory.specs.Laws.{AreParsed}
+use Rattle.check_theory.specs.Proved.{Finishes, state_from, state_at, IsProvedLemma, EndsInProof}
 use Rattle.check_theory.proofs.Trees.{kind_is, tree_is}
 use Rattle.check_theory.proofs.Verdicts.{one_is}
 use Rattle.check_theory.proofs.Placed.{Allows, opens, Placed, marks_placed, placed_read}
 use Rattle.check_theory.proofs.Opened.{Stands, none_open, open_behind, open_stands}
 use Rattle.check_theory.proofs.Judged.{judge, Cut, cut_at, judged_join, state_is}
-use Rattle.check_theory.proofs.Derived.{behind_joined, closer_shown, block_shown}
+use Rattle.step_theory.proofs.Derived.{behind_joined, closer_shown, block_shown}
 
 -- ---- what a kind says of a tree
 

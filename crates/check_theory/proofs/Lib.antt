@@ -6,7 +6,6 @@ pub mod Living
 pub mod Standings
 pub mod Placed
 pub mod Opened
-pub mod Derived
 pub mod Judged
 pub mod Blocks
 mod Rows

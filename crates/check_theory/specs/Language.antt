@@ -10,7 +10,7 @@ use Rattle.script_theory.specs.Sentences as script
 use Rattle.doc_theory.specs.Documents.{Closer, qed, admitted, defined, abort, Kind, plain, begin, inner, close, Sentence}
 use Rattle.doc_theory.specs.Checks.{Verdict, good, wrong, Found, texts, unknown_name, Checked, Check}
 use Rattle.check_theory.specs.Pieces.{place_in_proofs, pieces_of}
-use Rattle.check_theory.specs.Texts.{verdict_text, declared_names, declaration_text, goals_text}
+use Rattle.step_theory.specs.Texts.{verdict_text, declared_names, declaration_text, goals_text}
 
 -- ---- the tree of a document's sentence
 

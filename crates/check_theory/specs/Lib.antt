@@ -1,4 +1,3 @@
-pub mod Texts
 pub mod Pieces
 pub mod Language
 pub mod Read

@@ -6,7 +6,7 @@ ghost use Rattle.term_core.specs.Context.{meaning, slots};
 ghost use Rattle.env_core.specs.Meaning.{declarations};
 ghost use Rattle.logic_theory.specs.Rules.{Formed, FormedContext};
 ghost use Rattle.vern_step.specs.Parsed.{kind_in};
-ghost use Rattle.vern_step.specs.declared.kind.Kind.TheVariants.{Plain};
+ghost use Rattle.step_core.specs.Standing.{is_open, is_within, state_of};
 
 use crate::evidence::read_out;
 use crate::forms::compared;
@@ -109,6 +109,9 @@ fn declared(alloc: Global, state: Standing0, row: &[u8]) -> (Standing0, Told) {
     let Kind::Plain = sentence.kind() else {
         return (state, Told::Misspelled);
     };
+    if state.is_open() {
+        return (state, Told::Misspelled);
+    }
     match one_sentence::<Brand>(alloc, state, &sentence, Blank::new(1)) {
         Ok((state, Verdict::Good)) => (state, Told::Declared),
         Ok((state, _)) => (state, Told::Refused),
@@ -134,7 +137,7 @@ fn one_sentence<L: Ledger>(
     requires name { blank.name ≡ L.name }
     requires parts { blank.parts ≡ L.parts }
     requires whole { 0 < L.parts }
-    requires plain { kind_in sentence.now ≡ Plain }
+    requires place { is_open (state_of state) ≡ is_within (kind_in sentence.now) }
 {
     let mut steps: Steps<L> = Steps::new(blank);
     one(alloc, state, 0, sentence, &mut steps)

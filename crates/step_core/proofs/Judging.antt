@@ -2,7 +2,7 @@
 use Rattle.std.proofs.Common.{◌≡◌, ℕ, inl, inr, List, ◌∷◌, Option, Some, None, Result, Ok, Err, IfOk}
 use Rattle.std.proofs.Common.{refl, sym, ap, subst, ◌∙◌, arith}
 use Rattle.vern_grammar.specs.Trees.{Name, Group, Expression, Shape}
-use Rattle.base_core.specs.Answers.{Answers, IsRefusal}
+use Rattle.base_core.specs.Answers.{Answers, IsRefusal, and_then}
 use Rattle.env_theory.specs.Declarations.{Declaration, sort, function, predicate, stated, term, formula}
 use Rattle.env_theory.specs.Typing.{Declares, Environment}
 use Rattle.env_core.specs.declared.declaration.Decl.{Decl}
@@ -12,17 +12,16 @@ use Rattle.elab_theory.specs.Sentences.{declaration_of, definition_of}
 use Rattle.elab_theory.proofs.Admitted.{declaration_admitted, definition_admitted}
 use Rattle.elab_core.specs.declared.fault.ElabFault.{ElabFault}
 use Rattle.elab_core.specs.declared.fault.ElabFault.TheVariants.{UnknownName, WrongKind, WrongSort, WrongArity, AlreadyDeclared, NotOfForm, TooLarge, NoMemory}
-use Rattle.elab_core.specs.Answers.{Passes, declared_size}
+use Rattle.elab_core.specs.Answers.{Passes, IsWithin, declared_size}
 use Rattle.elab_core.specs.Answers.{Declares as Types}
 use Rattle.tactic_theory.specs.Faults.{too_large}
 use Rattle.tactic_theory.specs.States.{StepFault, row_fault}
 use Rattle.script_theory.specs.Sizes.{told, large_declaration}
-use Rattle.script_theory.specs.Sentences.{sized}
+use Rattle.script_theory.specs.Sentences.{sized, from_elaboration}
 use Rattle.script_theory.specs.Sentences as check
-use Rattle.step_core.specs.declared.verdict.Fault.TheVariants as fault
-use Rattle.step_core.specs.declared.declare.Refusal.{Refusal}
-use Rattle.step_core.specs.declared.declare.Refusal.TheVariants as refusal
-use Rattle.step_core.specs.Standing.{IsNew, normal_excess, refused, within}
+use Rattle.step_core.specs.declared.refusal.Refusal.{Refusal}
+use Rattle.step_core.specs.Refusals.{refused, told_as}
+use Rattle.step_core.specs.Steps.{IsNew, normal_excess, within}
 use Rattle.step_core.proofs.Measured.{measured_past, measured_within}
 
 -- ---- sizes
@@ -52,60 +51,28 @@ large_within E (formula n ps b) h = measured_within _ _ _ h
 
 -- ---- faults of typing
 
--- the fault that a fault of typing is
-abbrev pub told_as : ElabFault → Refusal
-told_as (UnknownName p) = refusal.Fault (fault.UnknownName p)
-told_as (WrongKind p) = refusal.Fault (fault.WrongKind p)
-told_as (WrongSort p) = refusal.Fault (fault.WrongSort p)
-told_as (WrongArity p) = refusal.Fault (fault.WrongArity p)
-told_as (AlreadyDeclared p) = refusal.Fault (fault.AlreadyDeclared p)
-told_as NotOfForm = refusal.Fault fault.NotOfForm
-told_as (TooLarge n h) = refusal.Fault (fault.TooLarge n h)
-told_as NoMemory = refusal.NoMemory
+-- A fault of typing is the refusal that it is told as, whatever is made of what is wanted.
+module _ {X Y Z : Type 0} (meaning : X → Y) (size : Y → ℕ × ℕ) (large : Y → Option (ℕ × ℕ)) (make : Y → Z)
+    (past : (y : Y) → Passes (size y) → large y ≡ Some (told (size y).0, told (size y).1)) where
+  abbrev made : Result Y TypingFault → Result Z StepFault
+  made w = and_then (from_elaboration w) (λ y. sized (large y) (make y))
 
-too_large_as : (E : List Declaration) (w : Result Declaration TypingFault) (n h : ℕ) → Types (Err (TooLarge n h)) w
-    → within E w ≡ Err (row_fault (too_large n h))
-too_large_as E (Ok d) n h (p, e, f) = ap (λ o. sized o d) (large_past E d p)
-    ∙ ap (λ m. Err (row_fault (too_large m (told (declared_size d).1)))) (sym e) ∙ ap (λ k. Err (row_fault (too_large n k))) (sym f)
-too_large_as E (Err g) n h w = absurd w
+  pub refused_as : (e : ElabFault) (w : Result Y TypingFault) → IsWithin meaning size (Err e) w → IsRefusal (refused (told_as e)) (made w)
+  refused_as (UnknownName p) w h = ap made h
+  refused_as (WrongKind p) w h = ap made h
+  refused_as (WrongSort p) w h = ap made h
+  refused_as (WrongArity p) w h = ap made h
+  refused_as (AlreadyDeclared p) w h = ap made h
+  refused_as NotOfForm w h = absurd h
+  refused_as (TooLarge n k) (Ok y) (p, e, f) = ap (λ o. sized o (make y)) (past y p)
+      ∙ ap (λ m. Err (row_fault (too_large m (told (size y).1)))) (sym e) ∙ ap (λ m. Err (row_fault (too_large n m))) (sym f)
+  refused_as (TooLarge n k) (Err g) h = absurd h
+  refused_as NoMemory w h = tt
 
-refused_as : (e : ElabFault) (E : List Declaration) (w : Result Declaration TypingFault) → Types (Err e) w
-    → IsRefusal (refused (told_as e)) (within E w)
-refused_as (UnknownName p) E w h = ap (within E) h
-refused_as (WrongKind p) E w h = ap (within E) h
-refused_as (WrongSort p) E w h = ap (within E) h
-refused_as (WrongArity p) E w h = ap (within E) h
-refused_as (AlreadyDeclared p) E w h = ap (within E) h
-refused_as NotOfForm E w h = absurd h
-refused_as (TooLarge n k) E w h = too_large_as E w n k h
-refused_as NoMemory E w h = tt
-
--- by constructors, as the code has them
-pub name_refused : (p : _) (E : List Declaration) (w : Result Declaration TypingFault) → Types (Err (UnknownName p)) w
-    → IsRefusal (refused (refusal.Fault (fault.UnknownName p))) (within E w)
-name_refused p E w h = refused_as (UnknownName p) E w h
-
-pub kind_refused : (p : _) (E : List Declaration) (w : Result Declaration TypingFault) → Types (Err (WrongKind p)) w
-    → IsRefusal (refused (refusal.Fault (fault.WrongKind p))) (within E w)
-kind_refused p E w h = refused_as (WrongKind p) E w h
-
-pub sort_refused : (p : _) (E : List Declaration) (w : Result Declaration TypingFault) → Types (Err (WrongSort p)) w
-    → IsRefusal (refused (refusal.Fault (fault.WrongSort p))) (within E w)
-sort_refused p E w h = refused_as (WrongSort p) E w h
-
-pub arity_refused : (p : _) (E : List Declaration) (w : Result Declaration TypingFault) → Types (Err (WrongArity p)) w
-    → IsRefusal (refused (refusal.Fault (fault.WrongArity p))) (within E w)
-arity_refused p E w h = refused_as (WrongArity p) E w h
-
-pub declared_refused : (p : _) (E : List Declaration) (w : Result Declaration TypingFault) → Types (Err (AlreadyDeclared p)) w
-    → IsRefusal (refused (refusal.Fault (fault.AlreadyDeclared p))) (within E w)
-declared_refused p E w h = refused_as (AlreadyDeclared p) E w h
-
-pub large_refused : (n k : ℕ) (E : List Declaration) (w : Result Declaration TypingFault) → Types (Err (TooLarge n k)) w
-    → IsRefusal (refused (refusal.Fault (fault.TooLarge n k))) (within E w)
-large_refused n k E w h = too_large_as E w n k h
-
-pub ruleset refusing = (name_refused, kind_refused, sort_refused, arity_refused, declared_refused, large_refused)
+pub judged_refused : (E : List Declaration) (e : ElabFault) (r : Refusal) (w : Result Declaration TypingFault) → Types (Err e) w
+    → r ≡ told_as e → Answers declaration refused (Err r) (within E w)
+judged_refused E e r w h k = subst (λ z. IsRefusal (refused z) (within E w)) (sym k)
+    (refused_as declaration declared_size (large_declaration E) (λ d. d) (large_past E) e w h)
 
 -- ---- what was typed
 
@@ -119,7 +86,7 @@ pub judged_large : (E : List Declaration) (d : Decl) (w : Result Declaration Typ
 judged_large E d w n h (e, l) k = ap (within E) e
     ∙ ap (λ o. sized o (declaration d)) (large_within E (declaration d) l ∙ sym k)
 
-pub ruleset judging = (judged_good)
+pub ruleset judging = (judged_good, judged_refused)
 
 -- ---- what a sentence declares is new
 

@@ -1,6 +1,9 @@
 pub mod Measured
 pub mod Judging
+pub mod Stating
+pub mod Keeping
 pub mod Checking
 pub mod Named
 pub mod Readback
 pub mod Pieces
+pub mod Entries

@@ -2,10 +2,13 @@
 use Rattle.std.proofs.Common.{◌≡◌, ℕ, List, [], ◌∷◌, Bool, true, false, ◌||◌, if◌then◌else◌, Option, Some, None, is_some, option_map}
 use Rattle.std.proofs.Common.{refl, sym, ap, ◌∙◌}
 use Rattle.std.specs.List.{list_any}
+use Rattle.std.proofs.lemmas.List.Folds.{list_any-append}
 use Rattle.fol_theory.specs.Syntax.{is_name}
 use Rattle.env_theory.specs.Declarations.{Declaration, find, name_of}
 use Rattle.env_theory.proofs.SameNames.{one_name, own_name}
-use Rattle.step_core.specs.Texts.{declared_names}
+use Rattle.fol_theory.specs.Slots.{Slot, names}
+use Rattle.tactic_theory.specs.Names.{is_among, is_taken}
+use Rattle.step_theory.specs.Texts.{declared_names, taken_in}
 
 -- whether two names are one, either way round
 turned_by : (m n : List ℕ) (p q : Bool) → is_name m n ≡ p → is_name n m ≡ q → p ≡ q
@@ -36,3 +39,16 @@ pub found_declared : {X : Type 0} (f : X → Declaration) (r : Option X) (E : Li
 found_declared f r E n h = some_of f r ∙ ap is_some h ∙ is_declared E n
 
 pub ruleset finding = (found_declared)
+
+-- ---- the names of a context too
+
+among_is : (n : List ℕ) (ms : List (List ℕ)) → is_among n ms ≡ list_any (is_name n) ms
+among_is n [] = refl
+among_is n (m ∷ ms) = ap (λ q. is_name n m || q) (among_is n ms)
+
+pub taken_among : (E : List Declaration) (c : List Slot) (n : List ℕ) (q : Bool) → q ≡ is_taken E c n
+    → q ≡ list_any (is_name n) (taken_in E c)
+taken_among E c n q h = h ∙ (λ i. among_is n (names c) i || among_is n (declared_names E) i)
+    ∙ sym (list_any-append (is_name n) (names c) (declared_names E))
+
+pub ruleset taking = (taken_among)

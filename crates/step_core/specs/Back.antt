@@ -7,7 +7,7 @@ use Rattle.vern_sentence.specs.Trees.{begin, declare}
 use Rattle.vern_step.specs.Parsed.{parsed}
 use Rattle.env_theory.specs.Declarations.{Declaration, stated}
 use Rattle.elab_theory.specs.Sentences.{statement_of, declaration_of}
-use Rattle.step_core.specs.Texts.{declaration_text}
+use Rattle.step_theory.specs.Texts.{declaration_text}
 
 -- `WORD TEXT.`
 abbrev pub sentence_text : List ℕ → List ℕ → List ℕ

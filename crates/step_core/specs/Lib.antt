@@ -1,4 +1,6 @@
 pub mod Verdicts
+pub mod Refusals
+pub mod Proofs
 pub mod Standing
-pub mod Texts
+pub mod Steps
 pub mod Back

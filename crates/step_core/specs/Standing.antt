@@ -1,64 +1,50 @@
 -- What checking a sentence comes to.
-use Rattle.std.specs.Prelude.{◌≡◌, ℕ, List, Option, Some, None, Result, Ok, Err}
-use Rattle.vern_sentence.specs.Trees.{Sentence, declare, define, begin, proof_word, refinement, bullet, brace_in, brace_out, close}
+use Rattle.std.specs.Prelude.{◌≡◌, ℕ, Bool, true, false, List, Option, Some, None, is_some, option_map, Ok}
+use Rattle.fol_theory.specs.Syntax.{Formula}
+use Rattle.vern_sentence.specs.Trees.{Sentence}
+use Rattle.vern_step.specs.declared.kind.Kind.{Kind}
+use Rattle.vern_step.specs.declared.kind.Kind.TheVariants.{Plain, Begin, Inner, Close}
 use Rattle.vern_step.specs.Parsed.{parsed}
-use Rattle.fol_theory.specs.Measures.{nodes, height, term_nodes, term_height}
-use Rattle.env_theory.specs.Declarations.{Declaration, sort, function, predicate, stated, term, formula, find, name_of}
-use Rattle.env_theory.specs.Typing.{Declares}
-use Rattle.env_theory.specs.Normal.{normal, normal_term}
-use Rattle.env_core.specs.declared.declaration.Decl.{Decl}
-use Rattle.env_core.specs.Meaning.{declarations, declaration}
-use Rattle.base_core.specs.Answers.{and_then}
-use Rattle.elab_theory.specs.Faults.{Fault as TypingFault}
-use Rattle.tactic_theory.specs.States.{StepFault, bad_bullet}
-use Rattle.script_theory.specs.Sizes.{measured, large_declaration}
-use Rattle.script_theory.specs.Sentences.{Script, script, one, sized, from_elaboration}
-use Rattle.script_theory.specs.Sentences as check
+use Rattle.env_core.specs.Meaning.{declarations}
+use Rattle.script_theory.specs.Sentences.{Open, Script, script, one}
+use Rattle.step_core.specs.declared.standing.Standing0.{Standing0}
 use Rattle.step_core.specs.declared.verdict.Verdict.{Verdict}
-use Rattle.step_core.specs.declared.declare.Refusal.{Refusal}
-use Rattle.step_core.specs.declared.declare.Refusal.TheVariants as refusal
-use Rattle.step_core.specs.Verdicts.{fault_of, verdict_of}
+use Rattle.step_core.specs.Proofs.{open_of}
+use Rattle.step_core.specs.Verdicts.{verdict_of}
 
--- the state that an environment is, while no proof is open
-abbrev pub state_of : List Decl → Script
-state_of ds = script (declarations ds) None
+-- the state that one stands for
+abbrev pub state_of : Standing0 → Script
+state_of s = script (declarations s.env) (option_map open_of s.proof)
 
--- the sentence of these bytes, checked in the first environment, leaves the second and has this verdict
-abbrev pub Finds : List Decl → ℕ → List ℕ → List Decl → Verdict → Type 0
+-- a proof is open
+abbrev pub is_open : Script → Bool
+is_open s = is_some s.proof
+
+-- a sentence of this kind stands within a proof or ends it
+abbrev pub is_within : Kind → Bool
+is_within Plain = false
+is_within Begin = false
+is_within Inner = true
+is_within (Close c) = true
+
+-- the sentence of these bytes, checked in the first state with this id, leaves the second and has this verdict
+abbrev pub Finds : Standing0 → ℕ → List ℕ → Standing0 → Verdict → Type 0
 Finds before id bytes after v = (t : Sentence) × (parsed bytes ≡ Ok t) × (one (state_of before) id t ≡ (state_of after, verdict_of v))
 
--- ---- on the way
+-- the statement of an open proof, if it has one
+abbrev pub statement_in : Option Open → Option (List ℕ × Formula)
+statement_in None = None
+statement_in (Some o) = o.statement
 
--- what a declaration or a definition declares, or its fault; of other sentences nothing is said
-abbrev pub declared_by : List Declaration → Sentence → Result Declaration StepFault
-declared_by E (declare x y) = check.declaration E x y
-declared_by E (define x gs r a) = check.definition E x gs r a
-declared_by E (begin x a) = Err bad_bullet
-declared_by E proof_word = Err bad_bullet
-declared_by E (refinement r) = Err bad_bullet
-declared_by E (bullet b k) = Err bad_bullet
-declared_by E brace_in = Err bad_bullet
-declared_by E brace_out = Err bad_bullet
-declared_by E (close k) = Err bad_bullet
+-- the formula of the statement of the open proof
+abbrev pub statement : Script → Option Formula
+statement s = option_map (λ w. w.1) (statement_in s.proof)
 
--- what was typed, if nothing in it is too large
-abbrev pub within : List Declaration → Result Declaration TypingFault → Result Declaration StepFault
-within E w = and_then (from_elaboration w) (λ d. sized (large_declaration E d) d)
+-- the id of an open proof's first fault, if it has one
+abbrev pub fault_in : Option Open → Option ℕ
+fault_in None = None
+fault_in (Some o) = o.fault
 
--- the two numbers of the normal form of what is declared, where one passes a limit
-abbrev pub normal_excess : List Declaration → Declaration → Option (ℕ × ℕ)
-normal_excess E (sort n) = None
-normal_excess E (function n ss s) = None
-normal_excess E (predicate n ss) = None
-normal_excess E (stated n a) = measured (nodes (normal E a)) (height (normal E a)) None
-normal_excess E (term n ps s b) = measured (term_nodes (normal_term E b)) (term_height (normal_term E b)) None
-normal_excess E (formula n ps b) = measured (nodes (normal E b)) (height (normal E b)) None
-
--- the fault of a refusal, or none for want of memory
-abbrev pub refused : Refusal → Option StepFault
-refused (refusal.Fault f) = Some (fault_of f)
-refused refusal.NoMemory = None
-
--- it has a new name, and is well formed
-abbrev pub IsNew : List Declaration → Declaration → Type 0
-IsNew E d = (find E (name_of d) ≡ None) × Declares E d
+-- the same of a state
+abbrev pub first_fault : Script → Option ℕ
+first_fault s = fault_in s.proof

@@ -1,7 +1,7 @@
 //! What a declaration or a definition declares, measured.
 ghost use Rattle.std.specs.Prelude.{◌≡◌, ℕ, ◌^◌, min, List, None, Result, IfOk};
 ghost use Rattle.std.specs.Result.{ForOk};
-ghost use Rattle.base_core.specs.Answers.{Answers, IsRefusal};
+ghost use Rattle.base_core.specs.Answers.{Answers};
 ghost use Rattle.vern_parse.specs.Sentences.{sentence as sentence_of};
 ghost use Rattle.vern_step.specs.Parsed.{kind_of};
 ghost use Rattle.vern_step.specs.declared.kind.Kind.TheVariants.{Plain};
@@ -11,32 +11,15 @@ ghost use Rattle.env_core.specs.Meaning.{declaration, declarations};
 ghost use Rattle.elab_theory.specs.Faults.{Fault as TypingFault};
 ghost use Rattle.elab_core.specs.Answers.{Declares as Types};
 ghost use Rattle.script_theory.specs.Sizes.{measured};
-ghost use Rattle.step_core.specs.Standing.{IsNew, declared_by, normal_excess, refused, within};
+ghost use Rattle.step_core.specs.Refusals.{refused};
+ghost use Rattle.step_core.specs.Steps.{IsNew, declared_by, normal_excess, within};
 
+use crate::refusal::Refusal;
 use crate::verdict::Fault;
-use base_core::NoMemory;
 use elab_core::{ElabFault, declaration, definition};
 use env_core::{Decl, Env, Tally};
 use std::alloc::Global;
 use vern_step::Raw;
-
-/// Why nothing is declared.
-#[derive(Drop)]
-pub(crate) enum Refusal {
-    Fault(Fault),
-    NoMemory,
-}
-
-impl From<NoMemory> for Refusal {
-    ghost use Rattle.std.specs.Prelude.{◌≡◌};
-    ghost use Rattle.step_core.specs.declared.declare.Refusal.TheVariants.{NoMemory};
-
-    ghost from_gives = { λ _ e. e ≡ NoMemory };
-
-    fn from(_: NoMemory) -> Refusal {
-        Refusal::NoMemory
-    }
-}
 
 /// What a declaration or a definition declares. Nothing of it is too large, neither as it is written nor in its normal
 /// form.
@@ -67,7 +50,7 @@ fn judge(env: &Env, typed: Result<Decl, ElabFault>) -> Result<Decl, Refusal>
             None => Ok(decl),
             Some((nodes, height)) => Err(Refusal::Fault(Fault::TooLarge(nodes, height))),
         },
-        Err(fault) => Err(refusal_of(fault)),
+        Err(fault) => Err(Refusal::from(fault)),
     }
 }
 
@@ -86,29 +69,12 @@ fn normal_excess(env: &Env, decl: &Decl) -> Option<(u64, u64)>
 
 /// Two numbers of which one passes its limit.
 #[tactic(auto, using(crate::proofs::Measured::cut))]
-fn excess(size: Tally) -> Option<(u64, u64)>
+pub(crate) fn excess(size: Tally) -> Option<(u64, u64)>
     ensures { (n h : ℕ) → size.nodes ≡ min n (2 ^ 32) → size.height ≡ min h (2 ^ 32) → result ≡ measured n h None }
 {
     if size.passes() {
         Some((size.nodes, size.height))
     } else {
         None
-    }
-}
-
-/// A fault of typing, as one of the sentence.
-#[tactic(auto, using(crate::proofs::Judging::refusing))]
-fn refusal_of(fault: ElabFault) -> Refusal
-    ensures { (E : List Declaration) (w : Result Declaration TypingFault) → Types (Err fault) w → IsRefusal (refused result) (within E w) }
-{
-    match fault {
-        ElabFault::UnknownName(span) => Refusal::Fault(Fault::UnknownName(span)),
-        ElabFault::WrongKind(span) => Refusal::Fault(Fault::WrongKind(span)),
-        ElabFault::WrongSort(span) => Refusal::Fault(Fault::WrongSort(span)),
-        ElabFault::WrongArity(span) => Refusal::Fault(Fault::WrongArity(span)),
-        ElabFault::AlreadyDeclared(span) => Refusal::Fault(Fault::AlreadyDeclared(span)),
-        ElabFault::NotOfForm => Refusal::Fault(Fault::NotOfForm),
-        ElabFault::TooLarge(nodes, height) => Refusal::Fault(Fault::TooLarge(nodes, height)),
-        ElabFault::NoMemory => Refusal::NoMemory,
     }
 }

@@ -6,7 +6,7 @@ ghost use Rattle.term_core.specs.Formula.{meaning};
 ghost use Rattle.term_core.specs.Term.{meaning as term_meaning};
 ghost use Rattle.env_core.specs.Meaning.{declaration, declarations, parameter};
 ghost use Rattle.print_theory.specs.Spelling.{formula_text, term_text};
-ghost use Rattle.step_core.specs.Texts.{arrows, declaration_text, declared_names, names_back, parameters_text};
+ghost use Rattle.step_theory.specs.Texts.{arrows, declaration_text, declared_names, names_back, parameters_text};
 
 use crate::verdict::put;
 use base_core::{Bytes, NoMemory};
@@ -23,7 +23,7 @@ struct Declared<'a> {
 
 impl<'a> Taken for Declared<'a> {
     ghost use Rattle.env_core.specs.Meaning.{declarations};
-    ghost use Rattle.step_core.specs.Texts.{declared_names};
+    ghost use Rattle.step_theory.specs.Texts.{declared_names};
 
     ghost taken = { λ s. declared_names (declarations s.env.now) };
 

@@ -2,7 +2,7 @@
 ghost use Rattle.std.specs.Prelude.{◌≡◌, ◌++◌, OnOk, IfOk};
 ghost use Rattle.std.specs.Fmt.{decimal};
 ghost use Rattle.step_core.specs.Verdicts.{fault_of, verdict_of};
-ghost use Rattle.step_core.specs.Texts.{at_span, fault_text, size_text, verdict_text};
+ghost use Rattle.step_theory.specs.Texts.{at_span, fault_text, size_text, verdict_text};
 
 use base_core::{Bytes, NoMemory};
 use itoa::Buffer;

@@ -1,10 +1,10 @@
-//! The program `step_trial`: it reads declarations and definitions from standard input, a sentence a line, checks them one
-//! after another, and writes behind each what is found.
+//! The program `step_trial`: it reads sentences from standard input, one a line, checks them one after another, and writes
+//! behind each what is found.
 //!
-//! A line `reset` begins anew with nothing declared. Behind a good sentence comes the text of what it declares, behind
-//! another its fault. The rows and what they give were typed from the rules of typing, printing and faults (README.md):
-//! stdin and stdout are the tests of step_core, and so of elab_core, env_core and term_print, as data that cost no proof.
-//! No program above uses this crate.
+//! Behind a sentence comes its fault, else the text of what it declares, else `good`; `goals` writes the goals of the open
+//! proof, `skip` with a closer ends it unchecked, and `reset` begins anew. The rows and what they give were typed from the
+//! rules of typing, proofs, printing and faults (README.md): stdin and stdout are the tests of step_core, and so of elab_core,
+//! env_core, proof_state and term_print, as data that cost no proof. No program above uses this crate.
 #![tactic(auto)]
 
 mod rows;

@@ -1,5 +1,5 @@
 use Rattle.std.proofs.Common.{◌≡◌, ◌++◌, drop}
-use Rattle.step_core.specs.Texts.{arrows}
+use Rattle.step_theory.specs.Texts.{arrows}
 use Rattle.step_core.proofs.text.put_arrows.Given as goal
 
 abbrev pub invariant-loop-sort : goal.invariant-loop-sort

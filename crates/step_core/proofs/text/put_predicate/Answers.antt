@@ -3,7 +3,7 @@ use Rattle.std.specs.Prelude.{codes}
 use Rattle.term_core.specs.Formula.{meaning}
 use Rattle.env_core.specs.Meaning.{declarations, parameter}
 use Rattle.print_theory.specs.Spelling.{formula_text}
-use Rattle.step_core.specs.Texts.{declared_names, names_back, parameters_text}
+use Rattle.step_theory.specs.Texts.{declared_names, names_back, parameters_text}
 use Rattle.step_core.proofs.Pieces.{joined_ok}
 use Rattle.step_core.proofs.text.put_predicate.Goals as goal
 

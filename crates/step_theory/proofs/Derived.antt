@@ -13,7 +13,7 @@ use Rattle.tactic_theory.specs.States.{StepFault}
 use Rattle.script_theory.specs.Sentences.{good, Open, Script, lemma, begun, one_at, one, state_behind, empty}
 use Rattle.script_theory.specs.Kept.{IsNamed, AreNamed, IsInner, AreInner, StatementProved, IsProved, StatementIs, IsInProof}
 use Rattle.script_theory.proofs.Kept.{good_is_proved, inners_stay, block_is_proved}
-use Rattle.check_theory.specs.Proved.{IsParsed, AreParsed, StatesWhatHolds}
+use Rattle.step_theory.specs.Laws.{IsParsed, AreParsed, StatesWhatHolds}
 
 some_name : (x : List ℕ) → IsFreeName x → x ≡ [] → ⊥
 some_name x h e =
