@@ -1,26 +1,13 @@
 -- An input that is read piece after piece.
-use Rattle.std.proofs.Common.{◌≡◌, ℕ, ◌+◌, List, [], ◌++◌, take, drop, length, Option, Some, None, IfSome, refl, sym, ap, ◌∙◌, arith, length-drop, length-append}
+use Rattle.std.proofs.Common.{◌≡◌, ℕ, ◌+◌, List, ◌++◌, take, drop, length, Option, Some, None, IfSome, sym, ap, ◌∙◌, arith, length-drop, length-append}
 use Rattle.std.proofs.Math.Seq.{take-add, take-append_seam, drop-append_seam}
 use Rattle.std.proofs.lemmas.List.{drop-drop}
-use Rattle.std.specs.Io.KnownBytes.{Consumes, Keeps}
+use Rattle.std.specs.Io.KnownBytes.{Consumes}
 use Rattle.batch_check.specs.Headline.{IsTaken}
 
 -- the text is the bytes that were taken, the first that the source had left
 abbrev pub IsSoFar : Option (List ℕ) → Option (List ℕ) → List ℕ → ℕ → Type 0
 IsSoFar before now text taken = IfSome before (λ all. IsTaken all now taken × (text ≡ take taken all))
-
--- nothing was read
-pub so_far_none : (before : Option (List ℕ)) → IsSoFar before before [] 0
-so_far_none None = tt
-so_far_none (Some all) = (record { within = omega arith; rest = refl }, refl)
-
--- a read that failed takes nothing
-pub so_far_kept : (before now new : Option (List ℕ)) (text : List ℕ) (taken : ℕ) → IsSoFar before now text taken → Keeps now new
-    → IsSoFar before new text taken
-so_far_kept None now new text taken h k = tt
-so_far_kept (Some all) None new text taken (t, e) k = absurd (cc)
-so_far_kept (Some all) (Some xs) None text taken h k = absurd k
-so_far_kept (Some all) (Some xs) (Some ys) text taken (t, e) k = (record { within = t.within; rest = ap Some k ∙ t.rest }, e)
 
 -- a piece more
 pub so_far_more : (before now new : Option (List ℕ)) (text piece : List ℕ) (taken : ℕ) → IsSoFar before now text taken

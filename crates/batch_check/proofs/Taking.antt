@@ -1,7 +1,6 @@
 -- What is found where a sentence is checked, refused, or none is left.
-use Rattle.std.proofs.Common.{◌≡◌, ℕ, ◌+◌, List, ◌∷◌, ◌++◌, Bool, true, false, Option, Some, None, Result, Ok, Err, refl, sym, ap, ◌∙◌, append-nil}
+use Rattle.std.proofs.Common.{◌≡◌, ℕ, ◌+◌, List, ◌∷◌, ◌++◌, Bool, true, false, Option, Some, None, Result, Ok, Err, refl, sym, ap, ◌∙◌}
 use Rattle.std.specs.Prelude.{is_some}
-use Rattle.vern_lex.specs.declared.sentences.CutFault.{CutFault}
 use Rattle.vern_sentence.specs.Trees.{Sentence, declare, define, begin, proof_word, refinement, bullet, brace_in, brace_out, close}
 use Rattle.vern_sentence.specs.Trees as sentence
 use Rattle.vern_step.specs.Parsed.{kind_of}
@@ -11,11 +10,8 @@ use Rattle.fol_theory.specs.Syntax.{Formula}
 use Rattle.script_theory.specs.Sentences.{Verdict, Open, Script, one, one_at, state_behind, verdicts, declared, begun, stepped, inner_at, lemma, declaration, definition}
 use Rattle.step_core.specs.Standing.{is_open, is_within}
 use Rattle.batch_check.specs.Numbers.{FIRST_ID}
-use Rattle.batch_check.specs.Batch.{Piece, piece, unread, unread_from, bad_ones, batch_from, ended, with_verdict, taken_with, opens, refusal_at, refusal_of, stop_at, stop_of}
-use Rattle.batch_check.specs.Run.{Findings, Progress, found, found_with, found_here}
-use Rattle.batch_check.specs.declared.stop.Stop.{Stop}
-use Rattle.batch_check.specs.declared.stop.StopKind.{StopKind}
-use Rattle.batch_check.specs.declared.stop.StopKind.TheVariants.{Parse}
+use Rattle.batch_check.specs.Batch.{Piece, piece, bad_ones, batch_from, with_verdict, taken_with, opens, refusal_at, refusal_of}
+use Rattle.batch_check.specs.Run.{Findings, Progress, found, found_with}
 
 -- ---- where a sentence may stand
 
@@ -67,26 +63,6 @@ left_open s id x h = go s.proof x h
     go (Some o) (close k) e = refl
 
 -- ---- what is found
-
--- a stop ends what is found
-stopped : (r : Progress) (s : Option Stop) → found_with r (ended s) ≡ found_here r s
-stopped r s = ap (λ (fs : List (ℕ × Verdict)). let f : Findings = record { state = r.state; faults = fs; stop = s } in f) (append-nil r.faults)
-
--- where a sentence is refused, checking ends
-pub refused : (r : Progress) (p : ℕ) (x : Sentence) (ps : List Piece) (k : StopKind) → refusal_of (is_open r.state) (kind_of x) r.count ≡ Some k
-    → found r (piece p x ∷ ps) ≡ found_here r (Some (stop_at p k))
-refused r p x ps k e =
-    ap (λ q. found_with r (taken_with q p (FIRST_ID + r.count) x (batch_from (r.count + 1) (opens (kind_of x)) ps))) e
-    ∙ stopped r (Some (stop_at p k))
-
--- where the text isn't read, checking ends
-pub not_read : (r : Progress) (p : ℕ) (ps : List Piece) → found r (unread p ∷ ps) ≡ found_here r (Some (stop_at p Parse))
-not_read r p ps = stopped r (Some (stop_at p Parse))
-
--- where none is left, checking ends
-pub none_left : (r : Progress) (fault : Option CutFault) → found r (unread_from fault) ≡ found_here r (stop_of fault)
-none_left r None = stopped r None
-none_left r (Some fault) = stopped r (stop_of (Some fault))
 
 -- where a sentence is checked, checking goes on
 pub checked : (r : Progress) (p : ℕ) (x : Sentence) (ps : List Piece) (s : Script) (v : Verdict) (faults : List (ℕ × Verdict))

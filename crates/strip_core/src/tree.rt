@@ -34,6 +34,7 @@ pub struct Descent {
 /// Rules in preorder that lead from what is left of a formula to its premises.
 #[derive(Drop)]
 pub struct Route {
+    /// The rules, with a leaf for each premise.
     pub rules: Vec<Rule>,
     /// What the open leaves have to show, in order.
     pub premises: Formulas,

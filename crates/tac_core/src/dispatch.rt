@@ -29,7 +29,8 @@ use term_core::Sequent;
 use vern_parse::RawTac;
 
 /// The state behind a refinement of its first focused goal, or the refinement's first fault: `NoGoal`, then those of its
-/// arguments, then `NotOfForm` and `NoSuchHyp`, `NameTaken`, `CannotMatch` and `TooLarge`. The state that is given stays as it is.
+/// arguments, then `NotOfForm` and `NoSuchHyp`, `NameTaken`, `CannotMatch` and `TooLarge`. That the term of `exists` has another
+/// sort than the goal asks for is looked at behind `NotOfForm`. The state that is given stays as it is.
 pub fn run(alloc: Global, tac: &RawTac, env: &Env, state: &State) -> Result<State, TacFault>
     requires own { IsLogical (refinement tac.now) }
     requires formed { FirstFormed (declarations env.now) (state_of state.now).focused }
