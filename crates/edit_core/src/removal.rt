@@ -25,12 +25,12 @@ pub struct Cancelled {
 
 /// What the removal of one id came to.
 #[derive(Clone, Copy)]
-enum Removal {
-    /// The id isn't in the line.
+pub enum Removal {
+    /// The id isn't in the line, which is as it was.
     Unknown,
-    /// The id is the kept closer of a zone, which is this id, or stands behind it.
+    /// The id is the kept closer of a zone, which is this id, or stands behind it; the line is as it was.
     Refused(u64),
-    /// The id went.
+    /// The id went, and the line is told so.
     Removed(Edited),
 }
 
@@ -96,8 +96,8 @@ fn remove_all(
     }
 }
 
-/// An id goes, with what has to go with it, which are listed.
-fn remove(graph: &mut Graph, id: u64, gone: &mut SparedSequence<u64>) -> Removal
+/// An id goes, with what has to go with it, which are listed in order. It takes no memory.
+pub fn remove(graph: &mut Graph, id: u64, gone: &mut SparedSequence<u64>) -> Removal
     requires room { length (ids graph.old) ≤ gone.old.spare }
     ensures line { graph.new ≡ line_after (removed id graph.old) graph.old }
     ensures told { result ≡ as_removal (removed id graph.old) }

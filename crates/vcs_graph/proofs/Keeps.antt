@@ -315,6 +315,17 @@ zone_line {a = a} {o = o} {z = z} k x e =
     ap (λ y. cursor (zone_from (take z.item a) y o)) de ∙ (last_join 1 (items_ids (take z.item a)) (w.lemma ∷ w.inside) ∙
     sym (ap (λ y. last_or (first_of y) (inside_of y)) xe))
 
+-- where no block is open, the items are those of the line
+from_end : (f r : List (Item ℕ Closing)) (o : End ℕ) → OpensFirst r → AtEnd (zone_from f r o).focus → ⊥
+from_end f [] o h e = h
+from_end f (lone i ∷ t) o h e = h
+from_end f (block l b c ∷ t) o h e = e
+
+pub end_items : (a : List (Item ℕ Closing)) (o : End ℕ) (z : Option Opened) → ZoneFits a z → AtEnd (line_of a o z).focus
+    → (line_of a o z).items ≡ a
+end_items a o None h e = refl
+end_items a o (Some z) h e = absurd (from_end (take z.item a) (drop z.item a) o h.0 e)
+
 -- the position of what comes in, where no zone is open
 pub front_is : {S : Type 0} {a : List (Item ℕ Closing)} {o : End ℕ} {z : Option Opened} {m : IndexMap ℕ Place S} →
     Kept a o z m → z ≡ None → (d : Line) → line_of a o z ≡ d → index_map_len m ≡ length (front d)

@@ -28,6 +28,8 @@ use Rattle.std.proofs.Common.{
 use Rattle.line_theory.specs.Lists.{last_or}
 use Rattle.line_theory.specs.Shapes.{Item}
 use Rattle.line_theory.specs.Lines.{Closing, item_ids, items_ids}
+use Rattle.vcs_graph.specs.Parts.{inside_of}
+use Rattle.vcs_graph.specs.Blocks.{inside_last}
 use Rattle.line_theory.proofs.Folded.{items_join}
 use Rattle.std.specs.Prelude.{Option, Some, None}
 use Rattle.vcs_graph.specs.declared.segment.Closer.{Closer}
@@ -56,6 +58,25 @@ last_items n xs h x e r f =
     f (last_or n (items_ids p.front)) ∙ sym (ap (λ y. last_or n (items_ids y)) whole ∙
     (ap (λ y. last_or n y) (items_join p.front (x ∷ []) ∙ ap (λ y. items_ids p.front ++ y) (append-nil (item_ids x))) ∙
     last_join n (items_ids p.front) (item_ids x)))
+  where
+    empty : {A : Type 0} (ys : List A) → length ys ≡ 0 → ys ≡ []
+    empty [] h = refl
+    empty (y ∷ ys) h = absurd (omega arith)
+
+pub inside_push : (a : List (Item ℕ Closing)) (x : Item ℕ Closing) → inside_last (a ++ (x ∷ [])) ≡ inside_of x
+inside_push [] x = refl
+inside_push (y ∷ []) x = refl
+inside_push (y ∷ (z ∷ zs)) x = inside_push (z ∷ zs) x
+
+-- what is inside of the last of some items
+pub inside_items : (xs : List (Item ℕ Closing)) → 0 < length xs → (x : Item ℕ Closing) → x ≡ slice_index_or xs (length xs - 1) x
+    → inside_of x ≡ inside_last xs
+inside_items xs h x e =
+    let p = parted xs (length xs - 1) (omega arith) in
+    let none : p.rest ≡ [] = empty p.rest (omega (arith, simp length-append at (ap length p.whole), p.count)) in
+    let xe : x ≡ p.item = e ∙ p.at x in
+    let whole : xs ≡ p.front ++ (x ∷ []) = p.whole ∙ cc (none, xe) in
+    sym (ap inside_last whole ∙ inside_push p.front x)
   where
     empty : {A : Type 0} (ys : List A) → length ys ≡ 0 → ys ≡ []
     empty [] h = refl

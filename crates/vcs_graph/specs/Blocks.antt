@@ -1,9 +1,10 @@
 -- The block that holds an id.
-use Rattle.std.specs.Prelude.{ℕ, ◌∷◌, false, if◌then◌else◌, Option, Some, None}
+use Rattle.std.specs.Prelude.{ℕ, List, [], ◌∷◌, false, if◌then◌else◌, Option, Some, None}
 use Rattle.line_theory.specs.Lists.{has}
-use Rattle.line_theory.specs.Shapes.{closed, proof, Focus, last, zone}
+use Rattle.line_theory.specs.Shapes.{Item, closed, proof, Focus, last, zone}
 use Rattle.line_theory.specs.Lines.{Closing, Line, Spot, at_lone, at_lemma, at_inner, at_closer, missing, locate}
 use Rattle.vcs_graph.specs.declared.graph.Block.{Block}
+use Rattle.vcs_graph.specs.Parts.{inside_of}
 
 -- a block with its closer
 abbrev pub held : ℕ → Closing → Block
@@ -32,3 +33,15 @@ abbrev pub open_in : Focus ℕ Closing → Option ℕ
 open_in (last closed) = None
 open_in (last (proof l b)) = Some l
 open_in (zone l b c t o) = Some l
+
+-- what is inside of it, up to the cursor
+abbrev pub inside_in : Focus ℕ Closing → List ℕ
+inside_in (last closed) = []
+inside_in (last (proof l b)) = b
+inside_in (zone l b c t o) = b
+
+-- what is inside of the last of some items
+abbrev pub inside_last : List (Item ℕ Closing) → List ℕ
+inside_last [] = []
+inside_last (x ∷ []) = inside_of x
+inside_last (x ∷ y ∷ ys) = inside_last (y ∷ ys)

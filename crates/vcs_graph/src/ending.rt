@@ -79,6 +79,16 @@ impl Ending {
         self.inside.len()
     }
 
+    /// What is inside of the open block; nothing where none is open.
+    pub fn inside(&self) -> &[u64]
+        ensures { result.now ≡ body_of self.now }
+    {
+        match self.lemma {
+            Some(_) => self.inside.as_slice(),
+            None => &[],
+        }
+    }
+
     /// A block begins.
     pub fn begin(&mut self, lemma: u64)
         ensures { self.new ≡ proof lemma [] }

@@ -45,7 +45,7 @@ ghost use Rattle.line_theory.specs.Lines.{
   dropped,
 };
 ghost use Rattle.line_theory.specs.Edits.{seat, lost};
-ghost use Rattle.vcs_graph.specs.Blocks.{block_in, open_in};
+ghost use Rattle.vcs_graph.specs.Blocks.{block_in, inside_in, inside_last, open_in};
 ghost use Rattle.vcs_graph.specs.Branches.{Branches, branched, IsZone};
 ghost use Rattle.vcs_graph.specs.GraphView.{IsStart};
 ghost use Rattle.vcs_graph.specs.Sums.{sum_to};
@@ -216,6 +216,24 @@ impl Graph {
             Some(zone) => Some(self.items[zone.item].first()),
             None => self.ending.lemma(),
         }
+    }
+
+    /// What is inside of the block in which the cursor stands, up to the cursor; nothing where it stands in none.
+    pub fn open_inside(&self) -> &[u64]
+        ensures { result.now ≡ inside_in self.now.focus }
+    {
+        match self.zone {
+            Some(zone) => self.items[zone.item].inside(),
+            None => self.ending.inside(),
+        }
+    }
+
+    /// What is inside of the last item, where no block is open: of the block that was closed last; nothing where that item is no block.
+    pub fn closed_inside(&self) -> &[u64]
+        requires { AtEnd self.now.focus }
+        ensures { result.now ≡ inside_last self.now.items }
+    {
+        inside_of_last(self.items.as_slice())
     }
 
     /// The id before one that is in the line, or 1.
@@ -489,6 +507,18 @@ fn last_of(items: &[Segment]) -> u64
 {
     let len = items.len();
     if len == 0 { 1 } else { items[len - 1].last() }
+}
+
+/// What is inside of the last of some items.
+fn inside_of_last(items: &[Segment]) -> &[u64]
+    ensures { result.now ≡ inside_last items.now }
+{
+    let len = items.len();
+    if len == 0 {
+        &[]
+    } else {
+        items[len - 1].inside()
+    }
 }
 
 /// How many ids stand before the item in which a zone is opened, the items having these sizes.

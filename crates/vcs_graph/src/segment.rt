@@ -133,6 +133,16 @@ impl Segment {
         self.inside.len()
     }
 
+    /// The entries inside of a block; none of a lone entry.
+    pub fn inside(&self) -> &[u64]
+        ensures { result.now ≡ inside_of self.now }
+    {
+        match self.closer {
+            Some(_) => self.inside.as_slice(),
+            None => &[],
+        }
+    }
+
     /// The last entry inside of a block, or its lemma.
     pub fn last_inside(&self) -> u64
         requires { IsBlock self.now }
