@@ -1,0 +1,14 @@
+pub mod Filled
+pub mod Apart
+pub mod Quiet
+pub mod Numbered
+pub mod Adding
+pub mod Removing
+pub mod Telling
+pub mod Slotted
+pub mod Growing
+pub mod Kept
+pub mod Attempted
+pub mod Told
+pub mod Reading
+pub mod Leaving
